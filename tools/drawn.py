@@ -652,13 +652,13 @@ class Drawer:
 
 
 def too_long(*_):
-    raise Difference("there was no end within a minute")
+    raise Difference("there was no end within a quarter of an hour")
 
 
 def follow(program, chance, on_file, next_line):
     """Runs one session, and tells what differs, its lines, and how much was checked."""
     signal.signal(signal.SIGALRM, too_long)
-    signal.alarm(60)
+    signal.alarm(900)
     with tempfile.TemporaryDirectory() as room:
         session = Checked(program, chance, os.path.join(room, "journal.db") if on_file else None)
         try:

@@ -16,8 +16,8 @@ sessions of holds or settlements. PART is
 - `rounds`: as `kills`, in sessions which are mostly rounds of workers: all steps of a round are in the journal, or none;
 - `files`: what is no journal, can't be read, can't be written, or is another session's: status 3, and the file is as it was.
 
-Trial I of seed S is the same each time, but for the moments. A trial that takes more than a minute, or than SECONDS, has failed. The last line is
-`N passed, M failed`; the status is 1 where one failed, or none was run.
+Trial I of seed S is the same each time, but for the moments. A trial that takes more than a quarter of an hour, or than SECONDS, has failed. The
+last line is `N passed, M failed`; the status is 1 where one failed, or none was run.
 """
 import argparse
 import concurrent.futures
@@ -39,6 +39,7 @@ PARTS = ("kills", "damages", "disks", "rounds", "files")
 TEXTS = (b"rollback: damaged ", b"rollback: gap ", b"rollback: store\n")
 QUESTIONS = ("show", "items", "history", "plan", "held")
 NOBODY = 65534
+PATIENCE = 900  # seconds, which no slow machine needs: it only ends what hangs
 
 
 # ---- Sessions ----
@@ -237,21 +238,21 @@ def serve_until(program, lines, path, at_once, last, wait, sent):
 
 def give(process, data):
     """Writes lines, and reads replies while the process takes no more of them: it may be waiting for its own to be read."""
-    left, read, ends = memoryview(data), b"", time.monotonic() + 30
+    left, read, ends = memoryview(data), b"", time.monotonic() + PATIENCE
     while left:
         try:
             left = left[os.write(process.stdin.fileno(), left) :]
         except BlockingIOError:
             read += process.stdout.read() or b""
             if time.monotonic() > ends:
-                raise Difference("no lines taken within half a minute") from None
+                raise Difference(f"no lines taken in {PATIENCE} s") from None
             time.sleep(0.0005)
     return read
 
 
 def read_replies(process, data, lines):
     """Reads until all of these lines are answered."""
-    ends = time.monotonic() + 30
+    ends = time.monotonic() + PATIENCE
     while len(whole_replies(lines, data)) < len(lines):
         more = process.stdout.read()
         if more:
@@ -259,7 +260,7 @@ def read_replies(process, data, lines):
         elif process.poll() is not None:
             raise BrokenPipeError
         elif time.monotonic() > ends:
-            raise Difference("no reply within half a minute")
+            raise Difference(f"no reply in {PATIENCE} s")
         else:
             time.sleep(0.0005)
     return data
@@ -297,7 +298,7 @@ def try_damage(program, chance, room):
     for end in ("", "-wal"):
         if os.path.exists(path + end):
             shutil.copy(path + end, copy + end)
-    checked = subprocess.run([program, "--check", path], stdout=subprocess.PIPE, stderr=subprocess.PIPE, timeout=50, check=False)
+    checked = subprocess.run([program, "--check", path], stdout=subprocess.PIPE, stderr=subprocess.PIPE, timeout=PATIENCE, check=False)
     if checked.returncode == 3:
         if checked.stdout or not checked.stderr.startswith(TEXTS):
             raise Difference(f"{kind}: refused by {checked.stderr!r} after {checked.stdout!r}")
@@ -377,7 +378,7 @@ def follow_disk(program, live, lines, early, path, seen):
         else:
             kept += entries_of(line, reply)
     if ended:
-        errors = process.communicate(timeout=30)[1]
+        errors = process.communicate(timeout=PATIENCE)[1]
         if process.returncode != 3 or errors != b"rollback: store\n":
             raise Difference(f"a round that the disk refused: status {process.returncode}, {errors!r}")
     else:
@@ -405,7 +406,7 @@ def lines_machine(lines):
 
 
 def status_of(program, words, data=b"history\n", user=None):
-    done = subprocess.run([program, *words], input=data, stdout=subprocess.PIPE, stderr=subprocess.PIPE, timeout=50, user=user, check=False)
+    done = subprocess.run([program, *words], input=data, stdout=subprocess.PIPE, stderr=subprocess.PIPE, timeout=PATIENCE, user=user, check=False)
     return done.returncode, done.stdout, done.stderr
 
 
@@ -504,7 +505,7 @@ def main():
     parser.add_argument("--rounds", type=int, default=200)
     parser.add_argument("--seed", default="1")
     parser.add_argument("--jobs", type=int, default=os.cpu_count() or 1)
-    parser.add_argument("--limit", type=int, default=60, metavar="SECONDS")
+    parser.add_argument("--limit", type=int, default=PATIENCE, metavar="SECONDS")
     asked = parser.parse_args()
     program = os.path.abspath(asked.program)
     if not os.access(program, os.X_OK):

@@ -36,13 +36,13 @@ NO_QUESTION = b'{"error":"no question","rollback_graph":1}'
 
 def answers(graph, data):
     """The lines that are answered, if it ends well."""
-    done = subprocess.run([graph, "--serve"], input=data, capture_output=True, timeout=120, check=False)
+    done = subprocess.run([graph, "--serve"], input=data, capture_output=True, timeout=600, check=False)
     return done.stdout.splitlines() if (done.returncode, done.stderr) == (0, b"") else [done.stderr]
 
 
 def ending(graph, words, **streams):
     """The status, and what is said on standard error."""
-    done = subprocess.run([graph, *words], stderr=subprocess.PIPE, timeout=120, check=False, **streams)
+    done = subprocess.run([graph, *words], stderr=subprocess.PIPE, timeout=600, check=False, **streams)
     return done.returncode, done.stderr
 
 

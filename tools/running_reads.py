@@ -37,7 +37,7 @@ def ensure(holds, why):
 
 
 def ran(words):
-    return subprocess.run([str(word) for word in words], stdin=subprocess.DEVNULL, capture_output=True, timeout=120, check=False)
+    return subprocess.run([str(word) for word in words], stdin=subprocess.DEVNULL, capture_output=True, timeout=600, check=False)
 
 
 class Writer(threading.Thread):

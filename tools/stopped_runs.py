@@ -10,7 +10,7 @@ import tempfile
 import rows
 from refused_sessions import COUNT, PICTURE, QUESTIONS, Wrong, forget_counts, is_round
 
-SECONDS = 120
+SECONDS = 600
 IN_MEMORY = "/dev/shm" if os.access("/dev/shm", os.W_OK) and shutil.disk_usage("/dev/shm").free > 1 << 30 else None
 KILLED = -9
 WELL = (0, b"")

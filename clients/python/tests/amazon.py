@@ -12,6 +12,7 @@ import urllib.error
 import urllib.request
 
 from tests.pages import WithPages, python_with
+from tests.program import PATIENCE
 
 MISSING = "no boto3 (on Debian the package python3-boto3, for /usr/bin/python3)"
 REGION, ACCOUNT = "us-east-1", "000000000000"
@@ -34,7 +35,7 @@ def provide(module):
     if python_with(module) is None and os.geteuid() == 0 and shutil.which("apt-get"):
         command = ["apt-get", "install", "-y", "--no-install-recommends", f"python3-{module}"]
         with contextlib.suppress(subprocess.SubprocessError):
-            subprocess.run(command, stdout=subprocess.DEVNULL, stderr=subprocess.DEVNULL, timeout=300, check=False)
+            subprocess.run(command, stdout=subprocess.DEVNULL, stderr=subprocess.DEVNULL, timeout=PATIENCE, check=False)
         python_with.cache_clear()
         importlib.invalidate_caches()
 
@@ -57,7 +58,12 @@ def client_of(service, url, key="ann", secret="secret", region=REGION):
     """A client of boto3, which gives no call twice."""
     from botocore.config import Config
 
-    settings = Config(retries={"max_attempts": 0, "mode": "standard"}, read_timeout=300, max_pool_connections=32)
+    settings = Config(
+        retries={"max_attempts": 0, "mode": "standard"},
+        connect_timeout=PATIENCE,
+        read_timeout=PATIENCE,
+        max_pool_connections=32,
+    )
     return session().client(
         service,
         endpoint_url=url,
@@ -77,7 +83,7 @@ def request_of(url, target, body, headers=(), authorization=AUTHORIZATION):
         f"{url}/", data, {name: value for name, value in found.items() if value is not None}
     )
     try:
-        with urllib.request.urlopen(request, timeout=300) as response:
+        with urllib.request.urlopen(request, timeout=PATIENCE) as response:
             return response.status, response.headers, json.loads(response.read())
     except urllib.error.HTTPError as fault:
         with fault:
@@ -122,7 +128,7 @@ class WithAmazon(WithPages):
         text = definition if isinstance(definition, str) else json.dumps(definition)
         return states.create_state_machine(name=name, definition=text, roleArn=ROLE, **more)["stateMachineArn"]
 
-    def ended(self, states, arn, seconds=120):
+    def ended(self, states, arn, seconds=PATIENCE):
         """An execution, once it runs no more."""
         ends = time.monotonic() + seconds
         while (found := states.describe_execution(executionArn=arn))["status"] == "RUNNING":

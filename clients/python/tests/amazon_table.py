@@ -1,6 +1,7 @@
 """Tests of the table by boto3: a server with one, its clients, and the step that a write was."""
 from rollback_client import Book
 from tests.amazon import WithAmazon, session
+from tests.program import PATIENCE
 
 STEP = "x-rollback-step"
 
@@ -20,7 +21,7 @@ class OfTable(WithAmazon):
         self.states, self.tables = self.clients(self.server)
 
     def book(self):
-        book = Book.connect(self.server.address, timeout=60)
+        book = Book.connect(self.server.address, timeout=PATIENCE)
         self.addCleanup(book.close)
         return book
 

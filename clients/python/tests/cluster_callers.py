@@ -1,25 +1,41 @@
 """Callers of a cluster, and what each said and was told, with the times."""
 import asyncio
+import contextlib
 import time
 from dataclasses import dataclass
 from typing import Optional
 
-from rollback_client import ConnectionLost, ExecutionTaken
+from rollback_client import ConnectionLost, Done, ExecutionTaken, NoMove, NoServer, NotLeader, Unavailable
+from rollback_client.copy import NoCopy
 
 PASS = 'define p {"StartAt":"P","States":{"P":{"Type":"Pass","Result":7,"End":true}}}'
 COUNTER = 'define counter {"StartAt":"P","States":{"P":{"Type":"Pass","Next":"P"}}}'
 SETUP = ["table items id:S []", PASS, COUNTER, "start shared counter {}"]
 
 
-async def started(book, execution, input):
-    """Starts an execution. A busy etcd may leave it open whether it was started, and then it is started again."""
+PASSES = (ConnectionLost, NoCopy, NoServer, NotLeader, Unavailable)  # what callers of a slow leader meet
+
+
+async def told(call):
+    """What a call answers, which may be made again."""
     while True:
-        try:
-            return str(await book.start(execution, "p", input))
-        except ConnectionLost:
-            continue
-        except ExecutionTaken:
-            return f"{execution}#0"
+        with contextlib.suppress(*PASSES):
+            return await call()
+
+
+async def started(book, execution, input):
+    """Starts an execution. It may be open whether it was started, and then it is started again."""
+    try:
+        return str(await told(lambda: book.start(execution, "p", input)))
+    except ExecutionTaken:
+        return f"{execution}#0"
+
+
+async def stepped(book, execution):
+    """Takes the one step of an execution of `p`, if it isn't open whether it was taken."""
+    while await told(lambda: book.show(execution)) != Done(7):
+        with contextlib.suppress(*PASSES, NoMove):
+            await book.step(execution)
 
 
 @dataclass
@@ -41,6 +57,11 @@ class Said:
     def is_refused(self):
         """Whether it has changed nothing for certain."""
         return self.reply is not None and not self.reply.startswith("ok")
+
+    @property
+    def is_refused_by_book(self):
+        """Whether the book refuses it, as it would with room and a leader: such a line isn't kept."""
+        return self.is_refused and not self.reply.startswith("no 40")
 
 
 class Caller:

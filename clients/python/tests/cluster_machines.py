@@ -18,10 +18,14 @@ import urllib.request
 from rollback_client.lines import lines_after
 from tests import certificates
 from tests.certificates import Authority, context_of
-from tests.program import PROGRAM, TOP, follower
+from tests.program import PATIENCE, PROGRAM, TOP, follower
 
 LISTS = ("items", "history", "plan", "rollback", "drive", "work", "held")
 PREFIX = "/rollback/orders"
+# How many seconds a leader has that says nothing. It leads on, though the machine has its processes wait for a moment; so does the member
+# that leads etcd, which has more patience than by its defaults.
+TTL = 5
+ETCD_WORDS = ["--pre-vote", "--heartbeat-interval", "300", "--election-timeout", "3000"]
 # Whatever becomes of a trial, nothing of it goes on.
 ENDS_WITH_US = ("setpriv", "--pdeathsig", "KILL")
 
@@ -62,7 +66,7 @@ def free_ports(count):
 def run_command(words, given=None):
     """Runs a command of the client's folder to its end."""
     folder = TOP / "clients/python"
-    return subprocess.run(words, input=given, capture_output=True, text=True, cwd=folder, timeout=600, check=False)
+    return subprocess.run(words, input=given, capture_output=True, text=True, cwd=folder, timeout=PATIENCE, check=False)
 
 
 def encoded(text):
@@ -72,7 +76,7 @@ def encoded(text):
 class Cluster:
     """Processes with their folder. `servers` and `members` are three of each, or nothing in the place of one that was ended."""
 
-    def __init__(self, ttl=2, nearest_only=False, quota=0, loss=0.0, tls=False, place=None, ask=None, http=()):
+    def __init__(self, ttl=TTL, nearest_only=False, quota=0, loss=0.0, tls=False, place=None, ask=None, http=()):
         self.room = pathlib.Path(tempfile.mkdtemp(prefix="rollback-cluster-", dir=place or folder()))
         self.ttl, self.nearest_only, self.quota, self.loss = ttl, nearest_only, quota, loss
         ports = free_ports(15)
@@ -141,7 +145,7 @@ class Cluster:
     def start_member(self, number):
         """Starts a member of etcd on its own folder."""
         words = ["etcd", "--name", f"m{number}", "--data-dir", str(self.room / f"m{number}")]
-        words += ["--logger", "zap", "--log-outputs", str(self.room / f"m{number}.log"), "--pre-vote"]
+        words += ["--logger", "zap", "--log-outputs", str(self.room / f"m{number}.log"), *ETCD_WORDS]
         words += ["--listen-client-urls", self.clients[number], "--advertise-client-urls", self.clients[number]]
         words += ["--listen-peer-urls", self.peers[number], "--initial-advertise-peer-urls", self.peers[number]]
         words += ["--initial-cluster", ",".join(f"m{each}={url}" for each, url in enumerate(self.peers))]
@@ -176,7 +180,7 @@ class Cluster:
             words += ["--tls", ",".join(self.server_files), "--etcd-tls", ",".join(self.caller_files)]
         if self.http_words:
             words += ["--http", self.pages[number], "--no-link", *self.http_words]
-        return [*words, *self.ask_words, "--log", str(self.room / f"log{number}"), "--grace", "5"]
+        return [*words, *self.ask_words, "--log", str(self.room / f"log{number}")]
 
     def start_server(self, number, program=PROGRAM, words=(), **environment):
         """Starts a server."""
@@ -264,7 +268,7 @@ class Cluster:
     def post(self, url, body):
         """One call."""
         asked = urllib.request.Request(url, json.dumps(body).encode(), {"Content-Type": "application/json"})
-        with urllib.request.urlopen(asked, timeout=2, context=self.tls) as answer:
+        with urllib.request.urlopen(asked, timeout=10, context=self.tls) as answer:
             return json.load(answer)
 
     async def etcd_soon(self, path, body, member=None):
@@ -295,7 +299,7 @@ class Cluster:
         number = self.addresses.index(found[0])
         connection = await self.connect(number)
         try:
-            reply = await connection.ask("connect", self.ttl + 3)
+            reply = await connection.ask("connect", 60)
         finally:
             connection.close()
         return str(number) if reply == "no 20" else None
@@ -336,11 +340,11 @@ class Cluster:
     async def connect(self, number):
         """A connection to a server, as callers have one."""
         try:
-            return await asyncio.wait_for(Connection.open(self.addresses[number], self.tls), 20)
+            return await asyncio.wait_for(Connection.open(self.addresses[number], self.tls), 60)
         except asyncio.TimeoutError:
             raise OSError("no connection in time") from None
 
-    async def until(self, holds, seconds=120):
+    async def until(self, holds, seconds=PATIENCE):
         """Waits until a coroutine function answers something true, and gives that."""
         ends, last = time.monotonic() + seconds, None
         while time.monotonic() < ends:
@@ -352,7 +356,7 @@ class Cluster:
             await asyncio.sleep(0.05)
         raise AssertionError(f"{holds.__name__} doesn't hold after {seconds} s: {last!r}")
 
-    async def ask(self, number, line, seconds=120):
+    async def ask(self, number, line, seconds=PATIENCE):
         """One line to one server, or to the one that leads, again until it is taken."""
 
         async def answered():
@@ -361,7 +365,7 @@ class Cluster:
                 return None
             connection = await self.connect(to)
             try:
-                reply = await connection.ask(line, self.ttl + 10)
+                reply = await connection.ask(line, 120)
             finally:
                 connection.close()
             return reply if reply and not reply.startswith("no 40") else None

@@ -7,7 +7,7 @@ from tests import pages
 from tests.amazon import STATES, TABLES, request_of
 from tests.cluster_callers import SETUP
 from tests.cluster_machines import Cluster
-from tests.program import TOP
+from tests.program import PATIENCE, TOP
 
 
 async def pages_follow(words):
@@ -16,23 +16,31 @@ async def pages_follow(words):
         for number in range(3):
             await cluster.ask(number, "items")
         await cluster.until(pages_are_there(cluster))
-        number, begun = await cluster.leader(), None
-        for turn in range(words.times + 1):
-            await asyncio.to_thread(look_at_standbys, cluster, number)
-            begun = await asyncio.to_thread(look_at_leader, cluster, number, turn, begun)
+        looks = Looks(cluster)
+        for _ in range(words.times + 1):
+            number = await while_one_leads(cluster, looks.look)
             await cluster.end_server(number)
             cluster.start_server(number)
             await cluster.ask(number, "history")
-            number = await cluster.leader()
             await cluster.until(pages_are_there(cluster))
-        page = pages.Page(cluster.link(number))
-        assert page.get("/book").value["paused"] == [["machine", "p"]]
-        assert await asyncio.to_thread(page.question, "item k"), "what the leader before wrote is gone"
-        await asyncio.to_thread(push_finds_the_same, cluster, number)
+        number = await while_one_leads(cluster, looks.look_at_what_stays)
         for member in range(3):
             await cluster.end_member(member)
         await cluster.until(refuses_all(cluster, number))
         return f"{words.times + 2} leaders"
+
+
+async def while_one_leads(cluster, look):
+    """Looks while one server leads, and gives its number. If another one leads meanwhile, it looks again."""
+    while True:
+        number, term = await cluster.leader(), await cluster.term()
+        try:
+            await asyncio.to_thread(look, number)
+            return number
+        except Exception:
+            if await cluster.term() == term:
+                raise
+            await cluster.until(pages_are_there(cluster))
 
 
 def push_finds_the_same(cluster, number):
@@ -59,7 +67,7 @@ def push_finds_the_same(cluster, number):
         cwd=TOP / "clients/python",
         capture_output=True,
         text=True,
-        timeout=600,
+        timeout=PATIENCE,
         check=False,
     )
     assert done.returncode == 0 and "0 to be written, 1 the same" in done.stdout, done
@@ -109,13 +117,65 @@ def look_at_standbys(cluster, leader):
             assert status == 421 and told["__type"].endswith("NotLeader") and address in told["message"], told
 
 
-def look_at_leader(cluster, number, turn, before):
-    """The leader's console and Amazon's calls give lines and answer questions. Gives what tells a page that it is another server."""
-    page, url = pages.Page(cluster.link(number)), f"http://{cluster.pages[number]}"
+class Looks:
+    """Looks at the consoles and Amazon's calls of a leader after the other."""
+
+    def __init__(self, cluster):
+        self.cluster = cluster
+        self.turn = 0  # of each look, also of one amid which another server came to lead
+        self.started = []  # executions of the looks that came to their ends
+        self.begun = None  # what tells a page that it is another server
+
+    def look(self, number):
+        """Looks at all three. What the leader before was given is there."""
+        look_at_standbys(self.cluster, number)
+        turn, self.turn = self.turn, self.turn + 1
+        page, url = pages.Page(self.cluster.link(number)), f"http://{self.cluster.pages[number]}"
+        begun = look_at_console(page, turn, self.begun)
+        self._look_at_table(url, turn)
+        self._look_at_executions(url, turn)
+        self.started.append(turn)
+        self.begun = begun
+
+    def _look_at_table(self, url, turn):
+        key = {"TableName": "items", "Key": {"id": {"S": "k"}}}
+        _, _, before = request_of(url, f"{TABLES}.GetItem", key)
+        assert not self.started or int(before["Item"]["v"]["N"]) >= self.started[-1], before
+        item = {"id": {"S": "k"}, "v": {"N": str(turn)}}
+        status, headers, told = request_of(
+            url, f"{TABLES}.PutItem", {"TableName": "items", "Item": item, "ReturnValues": "ALL_OLD"}
+        )
+        assert status == 200 and headers["x-rollback-step"], told
+        assert told.get("Attributes") == before.get("Item"), told
+        status, _, told = request_of(url, f"{TABLES}.GetItem", key)
+        assert status == 200 and told == {"Item": item}, told
+
+    def _look_at_executions(self, url, turn):
+        arn = "arn:aws:states:us-east-1:000000000000:stateMachine:p"
+        given = {"stateMachineArn": arn, "name": f"aws{turn}", "input": '{ "a" : 1 }'}
+        status, _, told = request_of(url, f"{STATES}.StartExecution", given)
+        assert status == 200, told
+        for each in (*self.started, turn):
+            arn = f"arn:aws:states:us-east-1:000000000000:execution:p:aws{each}"
+            status, _, told = request_of(url, f"{STATES}.DescribeExecution", {"executionArn": arn})
+            # The text as it was given stays on its machine. Behind another leader it is the book's own.
+            assert status == 200 and told["input"] in ('{ "a" : 1 }', '{"a":1}'), told
+            assert each < turn or told["input"] == '{ "a" : 1 }', told
+
+    def look_at_what_stays(self, number):
+        """What is paused and what was written is there behind the last leader."""
+        page = pages.Page(self.cluster.link(number))
+        assert page.get("/book").value["paused"] == [["machine", "p"]]
+        assert page.question("item k"), "what the leader before wrote is gone"
+        push_finds_the_same(self.cluster, number)
+
+
+def look_at_console(page, turn, before):
+    """The leader's console gives lines and answers questions. Gives what tells a page that it is another server."""
     shown = page.get("/")
     assert shown.status == 200 and "console.js" in shown.data.decode()
-    if turn == 0:
-        assert page.line(SETUP[1]).value["reply"] == "ok\n"
+    if before is None:
+        assert page.line(SETUP[1]).value["reply"] == "ok\n" or turn
         assert page.line("!pause machine p").value["reply"] == "ok\n"
     name = f"p{turn}"
     assert page.line(f"start {name} p {{}}").value["reply"] == f"ok {name}#0\n"
@@ -128,23 +188,4 @@ def look_at_leader(cluster, number, turn, before):
     assert about["paused"] == [["machine", "p"]] and about["runs"] and about["begun"] != before, about
     rows = page.get("/entries", count=3).value["log"]
     assert rows[-1]["command"] == "rollback" and rows[-1]["who"] == "console", rows
-    item = {"id": {"S": "k"}, "v": {"N": str(turn)}}
-    status, headers, told = request_of(
-        url, f"{TABLES}.PutItem", {"TableName": "items", "Item": item, "ReturnValues": "ALL_OLD"}
-    )
-    assert status == 200 and headers["x-rollback-step"], told
-    assert told.get("Attributes", {}).get("v") == (None if turn == 0 else {"N": str(turn - 1)}), told
-    status, _, told = request_of(url, f"{TABLES}.GetItem", {"TableName": "items", "Key": {"id": {"S": "k"}}})
-    assert status == 200 and told == {"Item": item}, told
-    arn = f"arn:aws:states:us-east-1:000000000000:stateMachine:p"
-    status, _, told = request_of(
-        url, f"{STATES}.StartExecution", {"stateMachineArn": arn, "name": f"aws{turn}", "input": '{ "a" : 1 }'}
-    )
-    assert status == 200, told
-    for each in range(turn + 1):
-        arn = f"arn:aws:states:us-east-1:000000000000:execution:p:aws{each}"
-        status, _, told = request_of(url, f"{STATES}.DescribeExecution", {"executionArn": arn})
-        # The text as it was given stays on its machine. Behind another leader it is the book's own.
-        assert status == 200 and told["input"] in ('{ "a" : 1 }', '{"a":1}'), told
-        assert each < turn or told["input"] == '{ "a" : 1 }', told
     return about["begun"]

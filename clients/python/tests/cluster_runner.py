@@ -14,7 +14,7 @@ from rollback_client.cluster.http import Http
 from rollback_client.cluster.serving import ClusterServer
 from rollback_client.cluster.turns import Role
 from rollback_client.server.words import read_words
-from tests.program import LOOP, PROGRAM, follower
+from tests.program import LOOP, PATIENCE, PROGRAM, follower
 
 LINES = [
     b"table items id:S []",
@@ -94,7 +94,7 @@ async def ends(room):
         await until(is_so, ends)
 
     server._member.live_on, server._until = put_on, noted
-    assert await asyncio.wait_for(server._serve(mock.Mock()), 240) == 0
+    assert await asyncio.wait_for(server._serve(mock.Mock()), PATIENCE) == 0
     await server.end_leading()
     await server.end_program()
     assert gate.position > len(LINES), "the runner took no step"

@@ -1,7 +1,17 @@
 """A server that answers as a test says, and no book behind it."""
+import contextlib
 import os
 import socket
 import threading
+
+from rollback_client import ConnectionLost
+
+
+def greeted(connect):
+    """What a call with a short timeout connects: a slow machine may need longer for the greeting, and then it is made again."""
+    while True:
+        with contextlib.suppress(ConnectionLost):
+            return connect()
 
 
 class FakeServer:

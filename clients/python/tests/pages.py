@@ -11,7 +11,7 @@ import sys
 import unittest
 import urllib.parse
 
-from tests.program import Served, follower
+from tests.program import PATIENCE, Served, follower
 
 JSON = "application/json"
 
@@ -57,7 +57,7 @@ class Page:
         """Sends a request. A header that is None is left out."""
         found = {"Host": self.host, "Origin": f"http://{self.host}", "Sec-Fetch-Site": "same-origin"}
         found.update({"Cookie": self.cookie, **(headers or {})})
-        connection = http.client.HTTPConnection(self.host, timeout=60)
+        connection = http.client.HTTPConnection(self.host, timeout=PATIENCE)
         if self._path is not None:
             connection.sock = socket.socket(socket.AF_UNIX)
             connection.sock.connect(self._path)

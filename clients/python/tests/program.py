@@ -37,6 +37,8 @@ def call(name, **parameters):
 PUT = call("putItem", Item={"id": {"S": "k"}, "v": {"S.$": "$.v"}})
 ECHO = {"StartAt": "P", "States": {"P": {"Type": "Pass", "End": True}}}
 LOOP = {"StartAt": "A", "States": {"A": {"Type": "Pass", "Next": "A"}}}
+# How many seconds is waited for what has to come. It only ends a test that hangs: no slow machine needs so long.
+PATIENCE = 900
 # Files are made in memory, if there is room: each line of a journal waits for its disk, and a busy one takes minutes for all tests.
 FOLDER = "/dev/shm" if os.access("/dev/shm", os.W_OK) and shutil.disk_usage("/dev/shm").free > 1 << 28 else None
 LISTS = ("items", "history", "plan", "rollback", "drive", "work", "held")
@@ -59,7 +61,7 @@ def follower():
     return PLAIN_FOLLOWER
 
 
-def ratio(one, other, most, times=3):
+def ratio(one, other, most, times=6):
     """How many times as long the one takes as the other: both give their seconds, and are done in turn, at the same load of the machine.
 
     Of each the shortest time counts, and there are further turns as long as the ratio isn't below `most`.
@@ -85,7 +87,7 @@ def takes_work(book):
     return True
 
 
-def connected(address, timeout=60):
+def connected(address, timeout=PATIENCE):
     """A plain connection to a server of lines."""
     if ":" in address and "/" not in address:
         host, _, port = address.rpartition(":")
@@ -110,10 +112,14 @@ class InFolder(unittest.TestCase):
     def setUp(self):
         held = tempfile.TemporaryDirectory(dir=FOLDER)
         self.addCleanup(held.cleanup)
-        self.room = held.name
+        self.room, self.began = held.name, time.time()
 
     def path(self, name):
         return os.path.join(self.room, name)
+
+    def is_of_this_test(self, moment):
+        """Whether a time of a clock is between the test's beginning and now, with what its digits leave out."""
+        return self.began - 1 <= moment <= time.time() + 1
 
 
 class Server:
@@ -135,7 +141,7 @@ class Server:
 
     def child(self):
         """The number of the program's process."""
-        ends = time.monotonic() + 60
+        ends = time.monotonic() + PATIENCE
         while time.monotonic() < ends:
             found = pathlib.Path(f"/proc/{self.process.pid}/task/{self.process.pid}/children").read_text().split()
             if found:
@@ -143,7 +149,7 @@ class Server:
             time.sleep(0.01)
         raise AssertionError("the server has no child")
 
-    def end(self, seconds=120, number=signal.SIGTERM):
+    def end(self, seconds=PATIENCE, number=signal.SIGTERM):
         """Ends the server, and gives its status and what it said on standard error."""
         if self.process.poll() is None:
             self.process.send_signal(number)
@@ -168,12 +174,12 @@ class Served(InFolder):
     def begun(self, *words, machine=PASS, **more):
         """A server whose book has a table and the machine `p`."""
         server = self.serve(*words, **more)
-        with Book.connect(server.address, timeout=60) as book:
+        with Book.connect(server.address, timeout=PATIENCE) as book:
             book.table("items", {"id": "S"})
             book.define("p", machine)
         return server
 
-    def refused(self, *words, program=PROGRAM, seconds=300, python=sys.executable):
+    def refused(self, *words, program=PROGRAM, seconds=PATIENCE, python=sys.executable):
         """The status of a server that doesn't serve, and what it says on standard error."""
         command = [python, "-m", "rollback_client.serve", "--program", program, *words]
         done = subprocess.run(
@@ -188,7 +194,25 @@ class Served(InFolder):
         self.assertNotIn(b"Traceback", done.stderr)
         return done.returncode, done.stderr.decode()
 
-    def plain(self, server, timeout=60):
+    def held_program(self):
+        """A program that holds the second piece of a drive back, from `until_held` on to `let_go`."""
+        path = self.path("held")
+        held = TOP / "clients/python/tests/held_program.py"
+        with open(path, "w", encoding="utf-8") as file:
+            file.write(f'#!/bin/sh\nexec {sys.executable} {held} {PROGRAM} {self.room} "$@"\n')
+        os.chmod(path, 0o755)
+        return path
+
+    def until_held(self):
+        """Waits until one piece of the drive is answered, and the second one given."""
+        self.until(lambda: os.path.exists(self.path("asked")))
+
+    def let_go(self):
+        """Lets the drive go on."""
+        with open(self.path("go"), "w", encoding="utf-8"):
+            pass
+
+    def plain(self, server, timeout=PATIENCE):
         """A plain connection, with its lines."""
         stream = connected(server.address, timeout)
         self.addCleanup(stream.close)
@@ -196,7 +220,7 @@ class Served(InFolder):
         self.addCleanup(lines.close)
         return stream, lines
 
-    def until(self, is_so, seconds=60):
+    def until(self, is_so, seconds=PATIENCE):
         """Waits until something is so."""
         ends = time.monotonic() + seconds
         while not is_so():

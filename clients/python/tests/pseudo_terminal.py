@@ -1,6 +1,7 @@
 """A process at a pseudo-terminal, as a person has it."""
 import fcntl
 import os
+import pathlib
 import pty
 import re
 import select
@@ -9,6 +10,8 @@ import struct
 import subprocess
 import termios
 import time
+
+from tests.program import PATIENCE
 
 _ESCAPES = re.compile(r"\x1b\[[0-9;?]*[A-Za-z]|\x1b[=>]|[\r\x07]")
 CONTROL_C, CONTROL_D, CONTROL_U, TAB, UP = "\x03", "\x04", "\x15", "\t", "\x1b[A"
@@ -60,17 +63,18 @@ class PseudoTerminal:
         """What is shown and wasn't waited for, without the terminal's signs."""
         return _ESCAPES.sub("", self._data.decode(errors="replace"))
 
-    def expect(self, text, seconds=180):
+    def expect(self, text, seconds=PATIENCE):
         """Waits for a text, and hands back what was shown before it."""
         ends = time.monotonic() + seconds
         while text not in self.shown():
-            if time.monotonic() > ends or not self._read(0.5) and self.process.poll() is not None:
+            is_over = self.process.poll() is not None  # so what is read after it is all
+            if time.monotonic() > ends or not self._read(0.5) and is_over:
                 raise AssertionError(f"{text!r} wasn't shown, but {self.shown()[-2000:]!r}")
         before, _, behind = self.shown().partition(text)
         self._data = behind.encode()
         return before
 
-    def until(self, is_so, seconds=180):
+    def until(self, is_so, seconds=PATIENCE):
         """Waits until something is so."""
         ends = time.monotonic() + seconds
         while not is_so():
@@ -79,16 +83,29 @@ class PseudoTerminal:
             self._read(0.05)
 
     def interrupt(self, text):
-        """Presses Ctrl-C until a text is shown. Python overlooks one that comes while readline is at work."""
-        for _ in range(90):
+        """Presses Ctrl-C, and again whenever it is overlooked, until a text is shown.
+
+        Python overlooks one that comes while readline is at work. Then the process waits on, and does nothing.
+        """
+        for _ in range(PATIENCE // 2):
             self.send(CONTROL_C)
-            try:
-                return self.expect(text, 2)
-            except AssertionError:
-                continue
+            while True:
+                before = self._spent()
+                try:
+                    return self.expect(text, 2)
+                except AssertionError:
+                    if self.process.poll() is not None:
+                        raise
+                    if self._spent() == before:
+                        break
         raise AssertionError(f"{text!r} wasn't shown after Ctrl-C, but {self.shown()[-2000:]!r}")
 
-    def ended(self, seconds=180):
+    def _spent(self):
+        """How long the process was at work, if it waits now; else what equals nothing."""
+        fields = pathlib.Path(f"/proc/{self.process.pid}/stat").read_text(encoding="ascii").rpartition(")")[2].split()
+        return fields[11:13] if fields[0] == "S" else object()
+
+    def ended(self, seconds=PATIENCE):
         """The status, once the process has ended."""
         ends = time.monotonic() + seconds
         while self.process.poll() is None and time.monotonic() < ends:

@@ -7,6 +7,7 @@ import time
 from rollback_client.runner.alone import Alone, Clock
 from rollback_client.runner.clock_file import ClockFile
 from rollback_client.runner.running import Options
+from tests.program import PATIENCE
 
 NOON = 1_795_435_200.0
 RESOURCE = "arn:aws:states:::dynamodb:"
@@ -31,12 +32,13 @@ class OwnClock(Clock):
     def sleep(self, until, most, heard):
         if self.is_stopped:
             raise Stopped
-        if until is not None and until <= self.limit:
+        limit = self.limit  # once, since the test moves it meanwhile
+        if until is not None and until <= limit:
             if until > self.time:
                 self.time = until
                 self.jumps.append(until)
             return
-        self.time = self.limit
+        self.time = limit
         self.idles += 1
         select.select([heard], [], [], 0.002)
 
@@ -60,15 +62,22 @@ class Run:
         finally:
             file.close()
 
-    def until(self, limit, seconds=60):
-        """Lets the clock go on to a moment after noon, and waits until nothing is to be done before it."""
-        self.clock.limit = NOON + limit
-        self.rest(seconds)
+    def until(self, limit):
+        """Lets the clock go on to a moment after noon, and waits until nothing is to be done before it.
 
-    def rest(self, seconds=60):
-        """Waits until the runner has nothing to do."""
-        ends, before = time.monotonic() + seconds, self.clock.idles
-        while self.clock.idles < before + 3 or self.clock.time < self.clock.limit:
+        The runner comes to rest before the clock goes on: so what was given to the book by now happens at the moment that it has now.
+        """
+        self.rest()
+        self.clock.limit = NOON + limit
+        self.rest()
+
+    def rest(self):
+        """Waits until the runner has done all that is to be done now.
+
+        Before each sleep it asks what was accepted. The next sleep may follow a question from before this call, and the one after doesn't.
+        """
+        ends, before = time.monotonic() + PATIENCE, self.clock.idles
+        while self.clock.idles < before + 2:
             if self.fault is not None:
                 raise self.fault
             assert time.monotonic() < ends, "the runner doesn't come to rest"
@@ -81,7 +90,7 @@ class Run:
 
     def stop(self):
         self.clock.is_stopped = True
-        self.thread.join(60)
+        self.thread.join(PATIENCE)
 
 
 @contextlib.contextmanager

@@ -13,7 +13,7 @@ from unittest import mock
 from rollback_client import AsyncBook, Book, Done, NoAnswer, NoFollower, Ready, questions
 from rollback_client.server.follower import Follower, accepted
 from rollback_client.server.turns import Turns
-from tests.program import FORK, LOOP, PASS, PROGRAM, Served, connected, follower
+from tests.program import FORK, LOOP, PASS, PATIENCE, PROGRAM, Served, connected, follower
 
 
 class Asked(Served):
@@ -68,7 +68,7 @@ class Accepted(Asked):
 class Questions(Asked):
     def test_a_question_sees_every_line_that_was_answered(self):
         server = self.asking(machine=FORK)
-        with Book.connect(server.address, timeout=60) as book:
+        with Book.connect(server.address, timeout=PATIENCE) as book:
             self.assertEqual(book.threads()["threads"], [])
             for number in range(20):
                 book.start(f"e{number:02}", "p", {"number": number})
@@ -91,7 +91,7 @@ class Questions(Asked):
         server, wrong = self.asking(), []
 
         def call(name):
-            with Book.connect(server.address, timeout=60) as book:
+            with Book.connect(server.address, timeout=PATIENCE) as book:
                 for number in range(40):
                     execution = f"{name}-{number}"
                     book.start(execution, "p", {})
@@ -119,7 +119,7 @@ class Questions(Asked):
 
     def test_long_answers(self):
         server = self.asking()
-        with Book.connect(server.address, timeout=60) as book:
+        with Book.connect(server.address, timeout=PATIENCE) as book:
             for number in range(12):
                 book.start(f"e{number}", "p", "x" * 1_000_000)
             told = book.threads()
@@ -223,7 +223,7 @@ class WithoutFollower(Asked):
 
     def test_it_is_begun_again(self):
         server = self.asking(machine=LOOP)
-        with Book.connect(server.address, timeout=60) as book:
+        with Book.connect(server.address, timeout=PATIENCE) as book:
             book.start("a", "p", {})
             for _ in range(3):
                 os.kill(self.follower_of(server), signal.SIGKILL)
@@ -258,7 +258,7 @@ for line in sys.stdin:
 """
         )
         server = self.asking(graph=graph)
-        with Book.connect(server.address, timeout=60) as book:
+        with Book.connect(server.address, timeout=PATIENCE) as book:
             book.start("a", "p", {})
             book.step("a")
 

@@ -1,5 +1,6 @@
 """A book for asyncio: calls that wait together, are cancelled, or meet an end."""
 import asyncio
+import contextlib
 import inspect
 import os
 import random
@@ -23,7 +24,7 @@ from rollback_client import (
     Taken,
 )
 from tests.fakes import FakeServer
-from tests.program import ECHO, LOOP, PASS, PROGRAM, Served
+from tests.program import ECHO, LOOP, PASS, PATIENCE, PROGRAM, Served
 
 TASKS, CALLS = 8, 2000
 
@@ -71,7 +72,7 @@ class Tasks(Served):
         server = self.begun(journal=None)
 
         async def talk():
-            async with await AsyncBook.connect(server.address, timeout=60) as book:
+            async with await AsyncBook.connect(server.address, timeout=PATIENCE) as book:
                 self.assertEqual(
                     await asyncio.gather(*(call_often(book, f"t{number}") for number in range(2))), [[], []]
                 )
@@ -187,19 +188,24 @@ class Ends(Served):
         fake = FakeServer(self.room, lambda line: replies[0])
         self.addCleanup(fake.close)
 
+        async def connected(timeout):
+            while True:  # a slow machine may need longer for the greeting
+                with contextlib.suppress(ConnectionLost):
+                    return await AsyncBook.connect(fake.address, timeout=timeout)
+
         async def talk():
             with self.assertRaises(NoServer):
                 await AsyncBook.connect(self.path("nothing"))
             with self.assertRaises(NoServer):
-                await AsyncBook.connect("127.0.0.1:1", timeout=60)
+                await AsyncBook.connect("127.0.0.1:1", timeout=PATIENCE)
             for reply, error, timeout in (
-                (b"busy\n", Busy, 60),
-                (b"ok what\n", StreamBroken, 60),
-                (None, ConnectionLost, 60),
+                (b"busy\n", Busy, PATIENCE),
+                (b"ok what\n", StreamBroken, PATIENCE),
+                (None, ConnectionLost, PATIENCE),
                 (b"ok 1\n", ConnectionLost, 2),  # the rest never comes
             ):
                 replies[:] = [reply]
-                book = await AsyncBook.connect(fake.address, timeout=timeout)
+                book = await connected(timeout)
                 with self.assertRaises(error):
                     await book.history()
                 with self.assertRaises(StreamBroken):
@@ -211,10 +217,10 @@ class Ends(Served):
         server = self.begun("--callers", "1", journal=None)
 
         async def talk():
-            async with await AsyncBook.connect(server.address, retry=60) as first:
+            async with await AsyncBook.connect(server.address, retry=PATIENCE) as first:
                 with self.assertRaises(Busy):
                     await AsyncBook.connect(server.address)
-                waiting = asyncio.ensure_future(AsyncBook.connect(server.address, retry=60))
+                waiting = asyncio.ensure_future(AsyncBook.connect(server.address, retry=PATIENCE))
                 await asyncio.sleep(0.05)
                 self.assertEqual(await first.items(), [])
             async with await waiting as second:

@@ -6,6 +6,7 @@ import time
 
 from rollback_client import Book
 from tests.amazon import WithAmazon, error_of
+from tests.program import PATIENCE
 from tests.runners import chain
 
 CLIENTS = 16
@@ -52,7 +53,7 @@ class Many(WithAmazon):
         rows = [row for page in listed for row in page["executions"]]
         self.assertEqual(len(rows), sum(counts))
         self.assertEqual({row["status"] for row in rows}, {"SUCCEEDED"})
-        with Book.connect(server.address, timeout=60) as book:
+        with Book.connect(server.address, timeout=PATIENCE) as book:
             for number in range(CLIENTS):
                 self.assertEqual(book.item({"id": {"S": f"copy{number}"}})["now"]["of"], {"N": str(counts[number])})
         status, said = server.end()

@@ -9,7 +9,7 @@ from rollback_client import plain
 from tests.amazon import WithAmazon
 from tests.amazon_calls import BAD_Q, CALLS, OTHER_P, TAGS_OF_Q, K, T, answer_of, executed
 from tests.amazon_machines import TRIALS, WIDGET
-from tests.program import TOP
+from tests.program import PATIENCE, TOP
 
 UNTAKEN = {"error": "ValidationException"}
 BRANCHING = ("map", "parallel", "failing", "one-at-a-time", "empty", "caught-map", "retried-parallel")
@@ -61,7 +61,7 @@ class Beside(WithAmazon):
             stdout=subprocess.PIPE,
             stderr=subprocess.PIPE,
             cwd=TOP / "clients/python",
-            timeout=600,
+            timeout=PATIENCE,
             check=False,
         )
         assert done.returncode == 0, done.stderr.decode()[-2000:]

@@ -9,7 +9,7 @@ from rollback_client import Book, Done
 from tests.amazon import HASH_ID, ROLE, WithAmazon, client_of
 from tests.amazon_machines import MACHINES
 from tests.pages import python_with
-from tests.program import PASS, PROGRAM, TOP
+from tests.program import PASS, PATIENCE, PROGRAM, TOP
 
 ORDERS = {"id": {"S": "o-1"}, "n": {"N": "1.5"}, "tags": {"SS": ["b", "a"]}, "m": {"M": {"l": {"L": [{"NULL": True}]}}}}
 BINARY = {"id": {"S": "photo"}, "data": {"B": b"\0\1"}}
@@ -34,7 +34,7 @@ class WithCommands(WithAmazon):
             stderr=subprocess.STDOUT,
             text=True,
             cwd=TOP / "clients/python",
-            timeout=600,
+            timeout=PATIENCE,
             check=False,
         )
         self.assertNotIn("Traceback", done.stdout)

@@ -6,7 +6,7 @@ import time
 from rollback_client import Book, Full
 from tests.amazon import ROLE, STATES, WithAmazon, error_of, plain_answer, request_of
 from tests.amazon_machines import MACHINES, TRIALS, WIDGET
-from tests.program import ECHO, LOOP, PASS
+from tests.program import ECHO, LOOP, PASS, PATIENCE
 
 ARN = "arn:aws:states:us-east-1:000000000000:"
 POOR = {"StartAt": "A", "States": {"A": {"Type": "Pass", "Nxt": "B"}, "C": {"Type": "Task", "Resource": "x"}}}
@@ -30,7 +30,7 @@ class Machines(WithAmazon):
             self.assertEqual((found["name"], found["status"], found["type"]), ("order", "ACTIVE", "STANDARD"))
             self.assertEqual(found["loggingConfiguration"], logging)
             self.assertEqual(found["tracingConfiguration"], {"enabled": False})
-            self.assertLess(abs(found["creationDate"].timestamp() - time.time()), 60)
+            self.assertTrue(self.is_of_this_test(found["creationDate"].timestamp()))
             self.assertEqual(self.states.list_tags_for_resource(resourceArn=arn)["tags"], tags)
             # also after a restart, and with a file that is lost the book's own spelling
             self.server.end()
@@ -322,7 +322,7 @@ class Executions(WithAmazon):
         made = ARN + "execution:p:e"
         found = self.ended(self.states, made)
         self.assertEqual((json.loads(found["input"]), found["output"]), ({"b": 1, "a": 2}, "7"))
-        self.assertLess(abs(found["startDate"].timestamp() - time.time()), 60)
+        self.assertTrue(self.is_of_this_test(found["startDate"].timestamp()))
         with Book.connect(self.server.address) as book:
             book.settle()
         settled = self.states.describe_execution(executionArn=made)
@@ -376,7 +376,7 @@ class Executions(WithAmazon):
 
     def test_a_full_book(self):
         arn = self.created(self.states, "loop", LOOP)
-        with Book.connect(self.server.address, timeout=120) as book:
+        with Book.connect(self.server.address, timeout=PATIENCE) as book:
             book.pause()
             book.start("l", "loop", {})
             with self.assertRaises(Full):

@@ -1,5 +1,4 @@
 """DynamoDB by boto3: the table, its reads, and the members of answers. The wanted answers are those of Amazon's documents."""
-import time
 from decimal import Decimal
 
 from tests.amazon import HASH_ID, client_of, error_of, plain_answer, request_of
@@ -29,7 +28,7 @@ class Tables(OfTable):
         self.assertEqual((found["TableName"], found["TableStatus"], found["ItemCount"]), ("orders", "ACTIVE", 0))
         self.assertEqual(found["TableArn"], "arn:aws:dynamodb:us-east-1:000000000000:table/orders")
         self.assertEqual(found["ProvisionedThroughput"]["ReadCapacityUnits"], 5)
-        self.assertLess(abs(found["CreationDateTime"].timestamp() - time.time()), 60)
+        self.assertTrue(self.is_of_this_test(found["CreationDateTime"].timestamp()))
         self.assertEqual(self.tables.list_tables()["TableNames"], ["orders"])
         self.assertEqual(self.tables.list_tables(ExclusiveStartTableName="orders")["TableNames"], [])
         arn = found["TableArn"]

@@ -7,7 +7,7 @@ import subprocess
 import tempfile
 
 from tests.amazon import ROLE, STATES, TABLES, WithAmazon, request_of
-from tests.program import PASS
+from tests.program import PASS, PATIENCE
 
 MACHINE = "arn:aws:states:us-east-1:000000000000:stateMachine:order"
 TABLE = "arn:aws:dynamodb:us-east-1:000000000000:table/orders"
@@ -203,7 +203,7 @@ class Command(WithAmazon):
                 stdout=subprocess.PIPE,
                 stderr=subprocess.PIPE,
                 text=True,
-                timeout=600,
+                timeout=PATIENCE,
                 check=False,
             )
         self.assertEqual(done.returncode == 0, status == 0, done.stderr)

@@ -11,7 +11,7 @@ from rollback_client.aws.refused import STATES as REFUSED_STATES
 from rollback_client.aws.refused import TABLES as REFUSED_TABLES
 from tests.amazon import STATES, TABLES, WithAmazon, request_of, session
 from tests.pages import python_with
-from tests.program import PASS, PROGRAM, TOP, follower
+from tests.program import PASS, PATIENCE, PROGRAM, TOP, follower
 
 PREFIXES = {"stepfunctions": STATES, "dynamodb": TABLES}
 DRAWS = int(os.environ.get("ROLLBACK_AWS_DRAWS", "25"))  # requests of each action
@@ -121,7 +121,7 @@ class Words(WithAmazon):
             stderr=subprocess.PIPE,
             text=True,
             cwd=TOP / "clients/python",
-            timeout=600,
+            timeout=PATIENCE,
             check=False,
         )
         self.assertNotIn("Traceback", done.stderr)

@@ -8,7 +8,7 @@ from decimal import Decimal
 from rollback_client import Book, Done, Ready
 from tests.amazon import TABLES, plain_answer, request_of
 from tests.amazon_table import STEP, OfTable, step_of
-from tests.program import TOP, Served, follower
+from tests.program import PATIENCE, TOP, Served, follower
 from tests.runners import chain, get, running
 
 
@@ -264,7 +264,7 @@ class Runners(Served):
             server = self.begun(
                 *words, "--graph", follower(), journal=f"{words[0][2:]}.db", address=self.path(words[0][2:])
             )
-            with Book.connect(server.address, timeout=60) as book:
+            with Book.connect(server.address, timeout=PATIENCE) as book:
                 book.define("aws-put", chain({"Type": "Pass"}))
                 book.start("aws-put-1", "aws-put", {})
                 book.start("e", "p", {})
@@ -287,7 +287,7 @@ class Guide(OfTable):
             [sys.executable, "-c", lines.replace("http://127.0.0.1:8000", self.server.url)],
             stdout=subprocess.PIPE,
             text=True,
-            timeout=600,
+            timeout=PATIENCE,
             check=True,
         )
         step = done.stdout.strip()

@@ -1,15 +1,15 @@
 """Trials of three servers and three members of etcd, some at a time, and what a server refuses to begin with."""
 import concurrent.futures
+import os
 import subprocess
 import sys
 import unittest
 
 from tests.cluster_machines import what_is_missing
-from tests.program import TOP
+from tests.program import PATIENCE, TOP
 
 MISSING = what_is_missing()
-AT_A_TIME = 4
-TTL = 2
+AT_A_TIME = max(2, min(4, len(os.sched_getaffinity(0))))
 # The longest first, so that the last ones to end are short.
 NAMES = (
     "space_used_up",
@@ -36,14 +36,14 @@ NAMES = (
 
 def tried(name):
     """The status of a trial, and what it says."""
-    command = [sys.executable, "-m", "tests.cluster_trials", "--ttl", str(TTL), name]
+    command = [sys.executable, "-m", "tests.cluster_trials", name]
     done = subprocess.run(
         command,
         stdout=subprocess.PIPE,
         stderr=subprocess.STDOUT,
         text=True,
         cwd=TOP / "clients/python",
-        timeout=1200,
+        timeout=4 * PATIENCE,
         check=False,
     )
     return done.returncode, done.stdout

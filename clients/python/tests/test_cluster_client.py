@@ -15,7 +15,7 @@ from rollback_client.aws.book import Table
 from rollback_client.faults import refusal_of
 from rollback_client.following import FIRST_PAUSE
 from tests.certificates import Authority, what_is_missing
-from tests.program import TOP, InFolder
+from tests.program import PATIENCE, TOP, InFolder
 
 
 class FakeMember:
@@ -110,7 +110,7 @@ class Followed(unittest.TestCase):
 
     def test_an_election_is_waited_for(self):
         member = self.member(lambda line: leads(line) if member.greetings > 4 else "no 40 election")
-        self.assertEqual(self.book(member, retry=60).history(), [Step("a", 0)])
+        self.assertEqual(self.book(member, retry=PATIENCE).history(), [Step("a", 0)])
         self.assertEqual(member.greetings, 5)
 
     def test_an_election_without_end(self):
@@ -138,8 +138,8 @@ class Followed(unittest.TestCase):
     def test_a_server_that_says_nothing(self):
         goes_on = threading.Event()
         self.addCleanup(goes_on.set)
-        silent = self.member(lambda line: "no 20" if line == "connect" or goes_on.wait(60) else "ok 0")
-        book = self.book(silent, timeout=2)
+        silent = self.member(lambda line: "no 20" if line == "connect" or goes_on.wait(PATIENCE) else "ok 0")
+        book = self.book(silent, timeout=2, retry=PATIENCE)
         with self.assertRaises(ConnectionLost):
             book.history()
         self.assertFalse(goes_on.is_set())
@@ -245,7 +245,7 @@ class Secured(InFolder):
         threading.Thread(target=echo, daemon=True).start()
         plain = socket.create_connection(listening.getsockname())
         passing = secured(plain, "127.0.0.1", files, 10)
-        passing.ours.settimeout(60)
+        passing.ours.settimeout(PATIENCE)
         sending = threading.Thread(target=passing.ours.sendall, args=(data,))
         sending.start()
         while sum(map(len, got)) < len(data):
@@ -253,7 +253,7 @@ class Secured(InFolder):
         sending.join()
         self.assertEqual(b"".join(got), data)
         passing.ours.close()
-        passing.join(5)
+        passing.join(PATIENCE)
         self.assertFalse(passing.is_alive())
 
     def test_files_that_are_wrong(self):
@@ -269,7 +269,7 @@ class Words(unittest.TestCase):
     def refused(self, *words):
         command = [sys.executable, "-m", "rollback_client.serve", *words]
         done = subprocess.run(
-            command, capture_output=True, text=True, cwd=TOP / "clients/python", timeout=300, check=False
+            command, capture_output=True, text=True, cwd=TOP / "clients/python", timeout=PATIENCE, check=False
         )
         self.assertEqual(done.returncode, 2, done.stderr)
         self.assertNotIn("Traceback", done.stderr)

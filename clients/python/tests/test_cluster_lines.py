@@ -18,7 +18,7 @@ from rollback_client.cluster.turns import Role
 from rollback_client.server.within import Elsewhere, Ended, where
 from rollback_client.web.seen import logged_in
 from tests.pages import python_with
-from tests.program import TOP, InFolder
+from tests.program import PATIENCE, TOP, InFolder
 from tests.test_cluster_log import LeaderInLoop, passes
 
 
@@ -43,7 +43,7 @@ class OfPages(LeaderInLoop):
 
     async def refusal_of(self, awaited):
         with self.assertRaises(Elsewhere) as caught:
-            await asyncio.wait_for(awaited, 60)
+            await asyncio.wait_for(awaited, PATIENCE)
         return caught.exception
 
     async def test_a_question_waits_until_the_log_has_what_was_known(self):
@@ -66,7 +66,7 @@ class OfPages(LeaderInLoop):
             self.turns.role, self.turns.refusal = role, refusal
             reply = f"no 40 {refusal}\n".encode()
             self.assertEqual(await self.lines.give("token ann", b"step a"), reply)
-            self.assertEqual(await asyncio.wait_for(self.given_in_turn(b"step a"), 60), reply)
+            self.assertEqual(await asyncio.wait_for(self.given_in_turn(b"step a"), PATIENCE), reply)
             if role is not Role.LEADER:
                 self.assertEqual((await self.refusal_of(self.lines.confirm())).reply, reply)
         self.assertEqual(self.server.given, [])
@@ -98,7 +98,7 @@ class OfPages(LeaderInLoop):
             self.assertIsInstance(self.leads.exception(), Deposed)
             self.give_up()
             for reply in (giving, turn.give(b"step a")):
-                self.assertEqual(await asyncio.wait_for(reply, 60), b"no 40 election\n")
+                self.assertEqual(await asyncio.wait_for(reply, PATIENCE), b"no 40 election\n")
         self.assertEqual((self.server.given, self.etcd.batches()), ([b"show a", b"step a"], []))
 
     async def test_a_turn_that_waits_when_a_life_ends_is_refused(self):
@@ -112,7 +112,7 @@ class OfPages(LeaderInLoop):
         self.assertFalse(waiting.done())
         await self.end_leading()
         self.turns.end_quiet()
-        self.assertEqual(await asyncio.wait_for(waiting, 60), b"no 40 election\n")
+        self.assertEqual(await asyncio.wait_for(waiting, PATIENCE), b"no 40 election\n")
 
     async def end_leading(self):
         self.leads.cancel()
@@ -132,7 +132,7 @@ class OfPages(LeaderInLoop):
             async with self.lines.turn("token ann"):
                 entered.append(list(reader.said))
 
-        await asyncio.wait_for(self.begin(enters()), 60)
+        await asyncio.wait_for(self.begin(enters()), PATIENCE)
         self.assertEqual(entered, [[]])
         held.set()
         await passes()
@@ -147,7 +147,7 @@ class OfPages(LeaderInLoop):
         self.assertIsNone(self.turns.refusal_now())
         with mock.patch("rollback_client.server.within.LOOKS_AGAIN", 0.01):
             for _ in range(2):  # one that waits meanwhile, and one that comes later
-                reply = await asyncio.wait_for(self.given_in_turn(b"show a"), 60)
+                reply = await asyncio.wait_for(self.given_in_turn(b"show a"), PATIENCE)
                 self.assertEqual(reply, b"no 40 quorum\n")
             self.assertTrue(self.turns.is_stopped)
             late.give("step a", "show a", "drive 300")
@@ -165,7 +165,7 @@ class OfPages(LeaderInLoop):
         await self.lead()
         self.the_log.way.is_cut = True
         with mock.patch.object(leading, "PATIENCE", -1), self.assertRaises(Ended):
-            await asyncio.wait_for(self.lines.give("token ann", b"step a"), 60)
+            await asyncio.wait_for(self.lines.give("token ann", b"step a"), PATIENCE)
 
     async def test_questions_arent_in_the_log_file(self):
         await self.lead()
@@ -212,7 +212,7 @@ class OfRunner(InFolder):
             self.skipTest("no Python has aiohttp (Debian's package python3-aiohttp)")
         words = [python, "-m", "tests.cluster_runner", name, self.room]
         done = subprocess.run(
-            words, cwd=TOP / "clients/python", capture_output=True, text=True, timeout=600, check=False
+            words, cwd=TOP / "clients/python", capture_output=True, text=True, timeout=PATIENCE, check=False
         )
         self.assertEqual(done.returncode, 0, done.stderr)
 

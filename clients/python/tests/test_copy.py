@@ -12,7 +12,7 @@ import unittest
 
 from rollback_client import Book, Busy, NoServer, Step
 from rollback_client.copy import NoCopy, copy_book
-from tests.program import PROGRAM, TOP, Served, connected
+from tests.program import PATIENCE, PROGRAM, TOP, Served, connected
 
 COPIES = int(os.environ.get("ROLLBACK_COPIES", "20"))
 GRAPH = os.environ.get("ROLLBACK_GRAPH", str(TOP / "crates/rollback_graph/out/rollback_graph"))
@@ -94,7 +94,7 @@ class Copies(Served):
         with self.assertRaises(NoServer):
             copy_book(self.path("nothing"), self.path("copy.db"), PROGRAM)
         server = self.begun("--callers", "1")
-        with Book.connect(server.address, retry=60):
+        with Book.connect(server.address, retry=PATIENCE):
             with self.assertRaises(Busy):
                 copy_book(server.address, self.path("copy.db"), PROGRAM)
 
@@ -149,7 +149,7 @@ class Commands(Served):
             text=True,
             cwd=TOP / "clients/python",
             check=False,
-            timeout=600,
+            timeout=PATIENCE,
         )
 
     def test_copy(self):

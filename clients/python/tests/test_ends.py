@@ -11,7 +11,8 @@ import time
 import unittest
 
 from rollback_client import Book, Done, NoServer, Step
-from tests.program import ECHO, LOOP, PASS, PROGRAM, TOP, Served, connected, read_reply
+from rollback_client.server.pieces import MOST_OF_A_PIECE
+from tests.program import ECHO, LOOP, PASS, PATIENCE, PROGRAM, TOP, Served, connected, read_reply
 
 
 def is_over(process):
@@ -41,7 +42,7 @@ class Signals(Served):
     def test_a_caller_that_reads_late_gets_its_replies_whole(self):
         for number in (signal.SIGTERM, signal.SIGINT, signal.SIGQUIT, signal.SIGHUP):
             with self.subTest(number):
-                server, stream = self.late(number)
+                server, stream = self.late(number, "--grace", str(PATIENCE))
                 with stream.makefile("rb") as lines:
                     said = lines.read()
                 self.assertEqual(said, b'ok done "%s"\n' % (b"x" * 500000) * 3)
@@ -49,10 +50,10 @@ class Signals(Served):
                 self.assertFalse(os.path.exists(server.address))
 
     def test_over_a_port_too(self):
-        server, stream = self.late(signal.SIGTERM, "--listen", "127.0.0.1:0")
+        server, stream = self.late(signal.SIGTERM, "--listen", "127.0.0.1:0", "--grace", str(PATIENCE))
         with stream.makefile("rb") as lines:
             self.assertEqual(lines.read(), b'ok done "%s"\n' % (b"x" * 500000) * 3)
-        self.assertEqual(server.process.wait(60), 0)
+        self.assertEqual(server.process.wait(PATIENCE), 0)
 
     def test_one_that_never_reads_is_cut(self):
         server, _ = self.late(signal.SIGTERM, "--grace", "0.2")
@@ -73,19 +74,21 @@ class Signals(Served):
             self.assertEqual(server.end(), (0, ""))
 
     def test_a_long_drive_ends_with_the_piece_at_hand(self):
-        server = self.begun(journal=None, machine=LOOP)
+        server = self.begun(journal=None, machine=LOOP, program=self.held_program())
         with Book.connect(server.address) as book:
             book.start("a", "p", {})
             stream, lines = self.plain(server)
             stream.sendall(b"drive 65000\n")
-            self.until(lambda: book.show("a").moves > 0)
+            self.until_held()
             server.process.terminate()
+            self.until(lambda: not os.path.exists(server.address))  # a server that ends takes its place away
+            self.let_go()
             taken = read_reply(lines, "drive")
         count = len(taken) - 1
         self.assertEqual(taken, [f"ok {count}"] + [f"a#{number}" for number in range(1, count + 1)])
-        self.assertGreater(count, 0)
-        self.assertLess(count, 65000)
-        self.assertEqual(server.process.wait(60), 0)
+        self.assertGreater(count, MOST_OF_A_PIECE)
+        self.assertLessEqual(count, 2 * MOST_OF_A_PIECE)
+        self.assertEqual(server.process.wait(PATIENCE), 0)
 
 
 class Callers(Served):
@@ -99,11 +102,11 @@ class Callers(Served):
             stream = connected(server.address)
             stream.sendall(b"held\n" * 64)
             stream.close()
-        with Book.connect(server.address, timeout=60) as book:
+        with Book.connect(server.address, timeout=PATIENCE) as book:
             for _ in range(10):
                 self.assertEqual(book.items(), [])
         server.process.terminate()
-        self.assertEqual(server.process.wait(60), 0)
+        self.assertEqual(server.process.wait(PATIENCE), 0)
         os.set_blocking(reading, False)
         self.assertRaises(BlockingIOError, os.read, reading, 1) if False else self.assertEqual(
             os.read(reading, 100), b""
@@ -133,7 +136,7 @@ class Callers(Served):
             stream.sendall(b"show big\n" * 3)
             time.sleep(0.2)
         server.process.terminate()
-        self.assertEqual(server.process.wait(60), 0)
+        self.assertEqual(server.process.wait(PATIENCE), 0)
 
     def test_lines_of_carriage_returns(self):
         server = self.begun(journal=None)
@@ -325,9 +328,9 @@ class Files(Served):
         stream, _ = self.plain(server)
         stream.sendall(b"work 1 250\n" * 60)
         server.process.kill()
-        server.process.wait(60)
+        server.process.wait(PATIENCE)
         self.until(lambda: is_over(child))
-        again = self.serve("--wait", "60")
+        again = self.serve("--wait", str(PATIENCE))
         with Book.connect(again.address) as book:
             self.assertEqual(len([step for step in book.history() if step.number == 0]), 50)
 
@@ -336,7 +339,7 @@ class Files(Served):
         book.table("items", {"id": "S"})
         later = threading.Timer(0.5, book.close)
         later.start()
-        server = self.serve("--wait", "60")
+        server = self.serve("--wait", str(PATIENCE))
         later.join()
         with Book.connect(server.address) as served:
             self.assertEqual(served.items(), [])
@@ -364,7 +367,7 @@ class Files(Served):
         stream, lines = self.plain(server)
         stream.sendall(b"items\nwork 1 5\nitems\n")
         self.assertEqual(lines.read(), b"ok 0\nno 24\n")
-        _, said = server.process.communicate(timeout=60)
+        _, said = server.process.communicate(timeout=PATIENCE)
         self.assertEqual(server.process.returncode, 3)
         self.assertTrue(said.startswith("rollback: store\n"))
         self.assertFalse(os.path.exists(server.address))

@@ -5,7 +5,7 @@ import sys
 import unittest
 
 from rollback_client import Book, Failed, Ready
-from tests.program import PASS, PROGRAM, TOP, Served
+from tests.program import PASS, PATIENCE, PROGRAM, TOP, Served
 
 GET_OR_FAIL = {
     "StartAt": "Check",
@@ -33,7 +33,7 @@ class Examples(Served):
             input=text,
             stdout=subprocess.PIPE,
             text=True,
-            timeout=600,
+            timeout=PATIENCE,
             check=True,
             env={**os.environ, "PYTHONPATH": str(TOP / "clients/python")},
         )

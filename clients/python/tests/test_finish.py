@@ -4,7 +4,7 @@ import threading
 import unittest
 
 from rollback_client import AsyncBook, Book, Done, Failed, Full, NoThread, Parked, Ready, Step
-from tests.program import ECHO, FORK, GET, LOOP, PASS, PROGRAM, PUT, InFolder
+from tests.program import ECHO, FORK, GET, LOOP, PASS, PATIENCE, PROGRAM, PUT, InFolder
 
 FAIL = {"StartAt": "E", "States": {"E": {"Type": "Fail", "Error": "no bill"}}}
 
@@ -123,7 +123,7 @@ class Waiting(InFolder):
                 book.wait("a", timeout=0.05)
             later = threading.Timer(0.2, book.step, ["a"])
             later.start()
-            self.assertEqual(book.wait("a", timeout=60), Done(7))
+            self.assertEqual(book.wait("a", timeout=PATIENCE), Done(7))
             later.join()
             with self.assertRaises(NoThread):
                 book.wait("b")

@@ -9,7 +9,7 @@ import unittest
 
 from rollback_client.lint import lint_text
 from tests.lint_drawing import Drawing, sources
-from tests.program import PROGRAM
+from tests.program import PATIENCE, PROGRAM
 
 COUNT = int(os.environ.get("ROLLBACK_DEFINITIONS", "10000"))
 SEED = int(os.environ.get("ROLLBACK_SEED", "1"))
@@ -20,7 +20,7 @@ def answers(texts):
     """What the program answers to definitions, each on a line of one session."""
     lines = ["table items id:S []"] + [f"define m{number} {text}" for number, text in enumerate(texts)]
     data = "".join(line + "\n" for line in lines).encode()
-    served = subprocess.run([PROGRAM], input=data, stdout=subprocess.PIPE, timeout=300, check=True)
+    served = subprocess.run([PROGRAM], input=data, stdout=subprocess.PIPE, timeout=PATIENCE, check=True)
     return served.stdout.decode().splitlines()[1:]
 
 

@@ -4,7 +4,7 @@ import os
 import subprocess
 import sys
 
-from tests.program import TOP, InFolder
+from tests.program import PATIENCE, TOP, InFolder
 
 FAULTY = """{
   "StartAt": "A",
@@ -30,7 +30,14 @@ class Command(InFolder):
         command = [sys.executable, "-m", "rollback_client.lint", *words]
         around = {**os.environ, "PYTHONPATH": str(TOP / "clients/python")}
         done = subprocess.run(
-            command, input=text, capture_output=True, text=True, timeout=300, check=False, cwd=self.room, env=around
+            command,
+            input=text,
+            capture_output=True,
+            text=True,
+            timeout=PATIENCE,
+            check=False,
+            cwd=self.room,
+            env=around,
         )
         return done.returncode, done.stdout, done.stderr
 

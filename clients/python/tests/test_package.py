@@ -10,7 +10,7 @@ import tempfile
 import unittest
 
 import rollback_client
-from tests.program import PROGRAM, TOP
+from tests.program import PATIENCE, PROGRAM, TOP
 
 PYTHON = TOP / "clients/python"
 FILES = sorted((PYTHON / "rollback_client").rglob("*.py"))
@@ -19,7 +19,7 @@ PYTHONS = (sys.executable, "/usr/bin/python3")
 
 def run(*command, **more):
     return subprocess.run(
-        command, stdout=subprocess.PIPE, stderr=subprocess.STDOUT, text=True, check=False, timeout=300, **more
+        command, stdout=subprocess.PIPE, stderr=subprocess.STDOUT, text=True, check=False, timeout=PATIENCE, **more
     )
 
 

@@ -10,7 +10,7 @@ import unittest
 from datetime import datetime, timezone
 
 from rollback_client import Book, Done, Failed, NoRunner, Parked, Ready
-from tests.program import LOOP, PROGRAM, TOP, Served, follower
+from tests.program import LOOP, PATIENCE, PROGRAM, TOP, Served, follower
 from tests.runners import (
     ABSENT,
     NOON,
@@ -36,7 +36,7 @@ class Ran(Served):
         self.book.table("items", {"id": "S"})
 
     def opened(self, server):
-        book = Book.connect(server.address, timeout=60)
+        book = Book.connect(server.address, timeout=PATIENCE)
         self.addCleanup(book.close)
         return book
 
@@ -337,7 +337,7 @@ class Restarts(Served):
 
     def again(self):
         server = self.serve("--ask", "--graph", follower())
-        book = Book.connect(server.address, timeout=60)
+        book = Book.connect(server.address, timeout=PATIENCE)
         self.addCleanup(book.close)
         return server, book
 
@@ -404,7 +404,7 @@ class Restarts(Served):
         with running(server.address, wait=60) as run:
             run.until(40)
             server.process.kill()
-            server.process.wait(60)
+            server.process.wait(PATIENCE)
             server, book = self.again()
             book.start("b", "m", {})
             self.until(lambda: self.is_back(book))
@@ -432,7 +432,7 @@ class Restarts(Served):
 
 
 class Command(Served):
-    def command(self, *words, seconds=60, **more):
+    def command(self, *words, seconds=PATIENCE, **more):
         return subprocess.run(
             [sys.executable, "-m", "rollback_client.runner", *words],
             cwd=TOP / "clients/python",
@@ -483,7 +483,7 @@ class Command(Served):
             with child, Book.connect(server.address) as book:
                 self.until(lambda: self.has_runner(book))
                 end(child)
-                said = child.communicate(timeout=60)[1]
+                said = child.communicate(timeout=PATIENCE)[1]
             self.assertEqual(child.returncode, status, said)
             self.assertNotIn("Traceback", said)
 
@@ -506,11 +506,11 @@ class Command(Served):
                 )
                 self.until(lambda: self.has_runner(book))
             children[0].send_signal(signal.SIGKILL)
-            children[0].wait(60)
+            children[0].wait(PATIENCE)
             book.pause(execution="x")
             self.until(lambda: self.has_runner(book))
             children[1].terminate()
-            self.assertEqual(children[1].wait(60), 0)
+            self.assertEqual(children[1].wait(PATIENCE), 0)
 
 
 if __name__ == "__main__":

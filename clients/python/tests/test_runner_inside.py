@@ -17,7 +17,7 @@ from rollback_client.runner.running import Options
 from rollback_client.server.inside import InsideRunner
 from rollback_client.server.turns import Turns
 from rollback_client.server.within import Lines
-from tests.program import LOOP, PROGRAM, TOP, Served, follower
+from tests.program import LOOP, PATIENCE, PROGRAM, TOP, Served, follower
 from tests.runners import ABSENT, NOON, PASSING, OwnClock, chain, put, running, wait
 
 
@@ -58,13 +58,13 @@ class Ends(unittest.IsolatedAsyncioTestCase):
         await asyncio.sleep(0)
         self.assertEqual(given, [b"step a\n", b"step b\n"])
         turns.feed(b"ok b#1 plain\n")
-        self.assertEqual(await asyncio.wait_for(second, 60), b"ok b#1 plain\n")
+        self.assertEqual(await asyncio.wait_for(second, PATIENCE), b"ok b#1 plain\n")
 
 
 class Runs(Inside):
     def test_waits_retries_and_branches(self):
         server = self.run_server("--log", self.path("log"))
-        with Book.connect(server.address, timeout=60) as book:
+        with Book.connect(server.address, timeout=PATIENCE) as book:
             book.table("items", {"id": "S"})
             lock = put("lock", call=ABSENT, Retry=[{"ErrorEquals": ["States.ALL"], "IntervalSeconds": 0.05}])
             fork = {"Type": "Parallel", "Branches": [chain(wait(Seconds=0.1)), chain(PASSING, PASSING)]}
@@ -84,7 +84,7 @@ class Runs(Inside):
 
     def test_no_wait_ends_early(self):
         server = self.run_server("--log", self.path("log"))
-        with Book.connect(server.address, timeout=60) as book:
+        with Book.connect(server.address, timeout=PATIENCE) as book:
             book.table("items", {"id": "S"})
             book.define("m", chain(PASSING, wait(SecondsPath="$.s"), PASSING))
             seconds = {f"e{number}": number * 0.03 for number in range(20)}
@@ -106,7 +106,7 @@ class Runs(Inside):
 
     def test_it_takes_no_place_and_shares_the_book(self):
         server = self.run_server("--callers", "1")
-        with Book.connect(server.address, timeout=60, retry=30) as book:
+        with Book.connect(server.address, timeout=PATIENCE, retry=PATIENCE) as book:
             book.table("items", {"id": "S"})
             book.define("loop", LOOP)
             for number in range(5):
@@ -125,15 +125,15 @@ class Runs(Inside):
 
     def test_pauses_outlast_a_restart(self):
         server = self.run_server()
-        with Book.connect(server.address, timeout=60) as book:
+        with Book.connect(server.address, timeout=PATIENCE) as book:
             book.table("items", {"id": "S"})
             book.define("m", chain(PASSING))
             book.pause(machine="m")
             book.start("a", "m", {})
         server.process.kill()
-        server.process.wait(60)
-        server = self.run_server("--wait", "30")
-        with Book.connect(server.address, timeout=60) as book:
+        server.process.wait(PATIENCE)
+        server = self.run_server("--wait", str(PATIENCE))
+        with Book.connect(server.address, timeout=PATIENCE) as book:
             book.define("n", chain(PASSING))
             book.start("b", "n", {})
             self.until(lambda: isinstance(book.show("b"), Done))
@@ -143,7 +143,7 @@ class Runs(Inside):
 
     def test_clocks_outlast_a_restart(self):
         server = self.run_server()
-        with Book.connect(server.address, timeout=60) as book:
+        with Book.connect(server.address, timeout=PATIENCE) as book:
             book.table("items", {"id": "S"})
             book.define("m", chain(wait(Seconds=3600)))
             book.start("a", "m", {})
@@ -151,15 +151,15 @@ class Runs(Inside):
             before = book.waits()
         for number in (signal.SIGTERM, signal.SIGKILL):
             server.process.send_signal(number)
-            server.process.wait(60)
-            server = self.run_server("--wait", "30")
-            with Book.connect(server.address, timeout=60) as book:
+            server.process.wait(PATIENCE)
+            server = self.run_server("--wait", str(PATIENCE))
+            with Book.connect(server.address, timeout=PATIENCE) as book:
                 self.until(book.waits)
                 self.assertEqual(book.waits(), before)
 
     def test_a_follower_that_is_killed(self):
         server = self.run_server()
-        with Book.connect(server.address, timeout=60) as book:
+        with Book.connect(server.address, timeout=PATIENCE) as book:
             book.table("items", {"id": "S"})
             book.define("m", chain(*[PASSING] * 5))
             for round in range(3):
@@ -173,24 +173,24 @@ class Runs(Inside):
     def test_copies_amid_its_steps(self):
         """Each copy is a journal of whole lines, and the runner goes on."""
         server = self.run_server()
-        with Book.connect(server.address, timeout=60) as book:
+        with Book.connect(server.address, timeout=PATIENCE) as book:
             book.table("items", {"id": "S"})
             book.define("loop", LOOP)
             for number in range(10):
                 book.start(f"e{number}", "loop", {})
-            before = number = 0
-            # a busy machine may begin the follower after the first copies
-            while number < 5 or before <= 10 and number < 300:
-                lines, steps = copy_book(server.address, self.path(f"copy{number}"), PROGRAM, 60)
+            self.until(lambda: len(book.history()) > 20)
+            before = 20
+            for number in range(5):
+                lines, steps = copy_book(server.address, self.path(f"copy{number}"), PROGRAM, PATIENCE)
                 self.assertEqual(lines, 2 + steps)
                 self.assertGreaterEqual(steps, before)
-                before, number = steps, number + 1
-            self.assertGreater(before, 10)
+                before = steps
+            self.until(lambda: len(book.history()) > before)
             book.pause()
 
     def test_a_standing_runner_beside_the_one_inside(self):
         server = self.run_server(journal=None)
-        with Book.connect(server.address, timeout=60) as book:
+        with Book.connect(server.address, timeout=PATIENCE) as book:
             book.table("items", {"id": "S"})
             child = subprocess.Popen(
                 [sys.executable, "-m", "rollback_client.runner", server.address, "--wait", "0"],
@@ -202,7 +202,7 @@ class Runs(Inside):
             self.assertIn("stands by", child.stderr.readline())
             self.assertEqual(book.waits(), [])
         server.end()
-        self.assertEqual(child.wait(60), 1)
+        self.assertEqual(child.wait(PATIENCE), 1)
 
 
 class Many(Inside):
@@ -215,7 +215,7 @@ class Many(Inside):
             book.start(f"ten-{number}", "ten", {})
         book.close()
         server = self.run_server()
-        with Book.connect(server.address, timeout=60) as book:
+        with Book.connect(server.address, timeout=PATIENCE) as book:
             self.until(lambda: book.show("endless-0").moves > 11)
         self.assertEqual(server.end()[0], 0)
         steps = [line[5:] for line in self.journal() if line.startswith("step ")]
@@ -236,7 +236,7 @@ class Many(Inside):
         book.start("a", "m", {})
         book.close()
         server = self.serve("--ask", "--graph", follower())
-        with Book.connect(server.address, timeout=60) as book, running(server.address) as run:
+        with Book.connect(server.address, timeout=PATIENCE) as book, running(server.address) as run:
             self.until(lambda: run.said)
             run.rest()
             self.assertEqual(run.said, ["the book is full, and no step is taken until there is room"])
@@ -257,7 +257,7 @@ class Many(Inside):
         book.start("loop", "loop", {})
         book.close()
         server = self.serve("--ask", "--graph", follower())
-        with Book.connect(server.address, timeout=60) as book, running(server.address, settle_at=200) as run:
+        with Book.connect(server.address, timeout=PATIENCE) as book, running(server.address, settle_at=200) as run:
             seen = []
 
             def has_settled():
@@ -312,7 +312,7 @@ class Idle(Inside):
             after = [self.seconds(process) for process in (inside.process, runner)]
         finally:
             runner.terminate()
-            runner.wait(60)
+            runner.wait(PATIENCE)
         for earlier, later in zip(before, after):
             self.assertLess(later - earlier, earlier / 5)
 

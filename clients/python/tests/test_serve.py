@@ -9,7 +9,8 @@ import threading
 import unittest
 
 from rollback_client import Book, ConnectionLost, Done, RollbackError, Step
-from tests.program import PASS, PROGRAM, PUT, TOP, Served, connected, read_reply
+from tests.cluster_machines import free_ports
+from tests.program import PASS, PATIENCE, PROGRAM, PUT, TOP, Served, connected, read_reply
 
 CALLERS = 16
 COMMANDS = int(os.environ.get("ROLLBACK_COMMANDS", "400"))
@@ -38,7 +39,7 @@ class Callers(Served):
     def call(self, server, name, wrong):
         """One caller. Half of them give all lines at once, half one after another."""
         pairs = session_of(name, COMMANDS)
-        with connected(server.address, 120) as stream, stream.makefile("rb") as lines:
+        with connected(server.address) as stream, stream.makefile("rb") as lines:
             data = "".join(f"{line}\n" for line, _ in pairs).encode()
             given = threading.Thread(target=stream.sendall, args=(data,)) if name[-1] in "02468" else None
             if given:
@@ -79,7 +80,7 @@ class Callers(Served):
             book.define("w", PUT)
             book.start("big", "p", ["x" * 1000] * 20)
             for number in range(20):
-                stream = connected(server.address, 10)
+                stream = connected(server.address)
                 if number % 2:
                     # It goes in the middle of a line, which is dropped.
                     stream.sendall(b'start half p {}\nstart other w {"v":')
@@ -96,7 +97,7 @@ class Callers(Served):
 
     def test_lines_of_all_kinds(self):
         server = self.begun()
-        stream = connected(server.address, 60)
+        stream = connected(server.address)
         self.addCleanup(stream.close)
         lines = stream.makefile("rb")
         self.addCleanup(lines.close)
@@ -108,9 +109,11 @@ class Callers(Served):
 
     def test_one_too_many_is_told(self):
         server = self.begun("--callers", "2")
-        with Book.connect(server.address, retry=60) as first, Book.connect(server.address, retry=60) as second:
+        with Book.connect(server.address, retry=PATIENCE) as first, Book.connect(
+            server.address, retry=PATIENCE
+        ) as second:
             self.assertEqual(first.items(), second.items())
-            third = connected(server.address, 10)
+            third = connected(server.address)
             self.addCleanup(third.close)
             self.assertEqual(third.recv(100), b"busy\n")
             self.assertEqual(first.history(), [])
@@ -127,7 +130,7 @@ class Ends(Served):
         for book in callers:
             with self.assertRaises(ConnectionLost):
                 book.history()
-        server.process.wait(60)
+        server.process.wait(PATIENCE)
         status, _ = server.end()
         self.assertEqual(status, 128 + signal.SIGKILL)
         with Book.open(server.journal, PROGRAM) as book:
@@ -169,9 +172,7 @@ class Ends(Served):
                 command, stdout=subprocess.PIPE, stderr=subprocess.PIPE, cwd=TOP / "clients/python", check=False
             )
             self.assertEqual(done.returncode, 2)
-        with socket.socket() as free:
-            free.bind(("127.0.0.1", 0))
-            address = f"127.0.0.1:{free.getsockname()[1]}"
+        address = f"127.0.0.1:{free_ports(1)[0]}"
         command = [sys.executable, "-m", "rollback_client.serve", "--program", PROGRAM, "--listen", address]
         with subprocess.Popen(command, stdout=subprocess.PIPE, text=True, cwd=TOP / "clients/python") as process:
             self.assertEqual(process.stdout.readline(), f"serving on {address}\n")

@@ -9,7 +9,7 @@ import unittest
 
 from rollback_client import Book
 from rollback_client.shell.__main__ import main
-from tests.program import PASS, PROGRAM, TOP, InFolder, Server
+from tests.program import PASS, PATIENCE, PROGRAM, TOP, InFolder, Server
 
 DEFINE = "define p " + json.dumps(PASS)
 BEGIN = ["table items id:S", DEFINE, "start a p {}", "step a"]
@@ -246,7 +246,7 @@ class Refusals(InShell):
         command = [sys.executable, "-m", "rollback_client.shell", "--program", PROGRAM]
         around = {**os.environ, "PYTHONPATH": str(TOP / "clients/python")}
         done = subprocess.run(
-            command, input=b"show \xff\nhistory\n", capture_output=True, timeout=300, check=False, env=around
+            command, input=b"show \xff\nhistory\n", capture_output=True, timeout=PATIENCE, check=False, env=around
         )
         self.assertEqual((done.returncode, done.stderr), (1, b""))
         self.assertEqual(len(done.stdout.splitlines()), 2)
@@ -255,7 +255,9 @@ class Refusals(InShell):
         command = [sys.executable, "-m", "rollback_client.shell", "--program", PROGRAM]
         around = {**os.environ, "PYTHONPATH": str(TOP / "clients/python")}
         text = "".join(line + "\n" for line in [*BEGIN, "show a"])
-        done = subprocess.run(command, input=text, capture_output=True, text=True, timeout=300, check=False, env=around)
+        done = subprocess.run(
+            command, input=text, capture_output=True, text=True, timeout=PATIENCE, check=False, env=around
+        )
         self.assertEqual((done.returncode, done.stderr), (0, ""))
         self.assertEqual(done.stdout.splitlines()[-1], "a is done, with the output 7")
 

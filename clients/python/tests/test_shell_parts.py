@@ -14,7 +14,7 @@ from rollback_client.shell.output import columns_of, laid_out
 from rollback_client.shell.reading import Brackets, one_line
 from rollback_client.shell.refusing import Names, explained, meant
 from rollback_client.shell.undoing import grouped
-from tests.program import PASS, PROGRAM, InFolder, Server, follower
+from tests.program import PASS, PATIENCE, PROGRAM, InFolder, Server, follower
 
 
 class Tables(unittest.TestCase):
@@ -154,7 +154,7 @@ class Going(InFolder):
         for line in ("table items id:S", "define p " + json.dumps(PASS), "start a p {}"):
             self.assertTrue(shell.line(line), written.getvalue())
         os.kill(server.child(), signal.SIGKILL)
-        server.process.wait(180)
+        server.process.wait(PATIENCE)
         self.assertFalse(shell.line("step a"))
         self.assertIn("whether this command is done isn't known, so look at history: step a", written.getvalue())
         server.end()

@@ -10,7 +10,7 @@ from rollback_client.shell.core import Shell
 from rollback_client.shell.output import Output
 from rollback_client.shell.session import Place, Session
 from rollback_client.shell.terminal import Completer
-from tests.program import PROGRAM, TOP, Served, follower
+from tests.program import PATIENCE, PROGRAM, TOP, Served, follower
 from tests.runners import chain, put, running, wait
 
 
@@ -19,7 +19,7 @@ class AtServer(Served):
         """A server with the book of an example, up to a line."""
         server = self.serve("--ask", "--graph", follower(), *words, journal=None)
         lines = (TOP / example).read_text(encoding="utf-8").split("\n")
-        with Book.connect(server.address, timeout=60) as book:
+        with Book.connect(server.address, timeout=PATIENCE) as book:
             for line in lines[: lines.index(until)]:
                 with contextlib.suppress(Exception):
                     book.ask(line)

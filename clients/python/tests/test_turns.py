@@ -12,7 +12,7 @@ import unittest
 from rollback_client import Book, Busy, ConnectionLost, Done, NoServer, Step
 from rollback_client.server.callers import Cutter
 from rollback_client.server.pieces import MOST_OF_A_PIECE, pieces_of
-from tests.program import ECHO, LOOP, PASS, Served, connected, read_reply
+from tests.program import ECHO, LOOP, PASS, PATIENCE, Served, connected, read_reply
 
 
 def answered(pieces, replies):
@@ -124,35 +124,26 @@ class LinesOfACaller(unittest.TestCase):
 
 class Turns(Served):
     def test_shows_beside_a_long_drive(self):
-        """The slowest of 100 shows takes less than a tenth of what the drive beside them takes.
+        """Ten shows at least, one after another, are answered amid a drive: none waits for all of it.
 
-        Another process may hold all of them up for a moment, so it is tried a few times.
+        Another process may hold the caller up for as long as the drive takes, so it is tried a few times.
         """
-        for _ in range(5):
-            slowest, took = self.shows_beside_a_drive()
-            if slowest < took / 10:
-                return
-        self.fail(f"a show took {slowest:.3f} s beside a drive of {took:.3f} s")
+        self.assertTrue(any(self.shows_beside_a_drive() >= 10 for _ in range(5)))
 
     def shows_beside_a_drive(self):
+        """How many shows of another caller see that a drive has begun and isn't over."""
         # Each step fills a template, so that the drive takes seconds, and a moment of another process is little beside it.
         fill = {"Type": "Pass", "Parameters": {f"field{number}": number for number in range(100)}, "Next": "A"}
         server = self.begun(machine={"StartAt": "A", "States": {"A": fill}}, journal=None)
         with Book.connect(server.address) as driver, Book.connect(server.address) as other:
             driver.start("a", "p", {})
-            driver.start("b", "p", {})
             with concurrent.futures.ThreadPoolExecutor(1) as threads:
-                began = time.monotonic()
-                drive = threads.submit(driver.drive, 20000)
-                waits, took = [], 0.0
-                while not drive.done() or len(waits) < 100:
-                    before = time.monotonic()
-                    other.show("b")
-                    waits.append(time.monotonic() - before)
-                    took = took or (time.monotonic() - began if drive.done() else 0.0)
+                drive, count = threads.submit(driver.drive, 20000), 0
+                while not drive.done():
+                    count += 0 < other.show("a").moves < 20000
                 self.assertEqual(drive.result(), [Step("a", number) for number in range(1, 20001)])
         server.end()
-        return max(waits), took
+        return count
 
     def test_a_show_waits_for_few_pieces(self):
         """Beside a drive 100 shows are at hand at once: from one to the next the driven thread has moved by two pieces at most."""
@@ -187,18 +178,22 @@ class Turns(Served):
             self.assertEqual(book.show("e299"), Done(7))
 
     def test_a_drive_ends_with_the_piece_at_hand_when_its_caller_goes(self):
-        server = self.begun(machine=LOOP, journal=None)
+        log = self.path("log")
+        server = self.begun("--log", log, machine=LOOP, journal=None, program=self.held_program())
         with Book.connect(server.address) as book:
             book.start("a", "p", {})
             stream = connected(server.address)
             stream.sendall(b"drive 65000\n")
-            self.until(lambda: book.show("a").moves >= MOST_OF_A_PIECE)
+            self.until_held()
             stream.close()
-            moves = [-1, book.show("a").moves]
-            while moves[-1] != moves[-2]:
-                time.sleep(0.2)
-                moves.append(book.show("a").moves)
-            self.assertLess(moves[-1], 65000)
+            self.let_go()
+            self.until(lambda: "drive 65000" in self.logged(log))
+            self.assertLess(book.show("a").moves, 65000)
+
+    def logged(self, log):
+        """The lines that a log has by now, in order."""
+        with open(log, encoding="utf-8") as file:
+            return [json.loads(entry)["line"] for entry in file if entry.endswith("\n")]
 
     def test_callers_take_turns_a_line_each(self):
         """While the program is stopped two callers give 60 lines each, and a third one gives one: it is among the first answered."""
@@ -217,8 +212,7 @@ class Turns(Served):
         for _, lines in bulk:
             for _ in range(60):
                 self.assertEqual(read_reply(lines, "history"), ["ok 0"])
-        with open(log, encoding="utf-8") as file:
-            order = [json.loads(entry)["line"] for entry in file]
+        order = self.logged(log)
         # 16 lines were with the program before it came; then the other two have a turn each.
         begun = order.index("history")
         self.assertLessEqual(order.index("held") - begun, 16 + 2)
@@ -227,39 +221,38 @@ class Turns(Served):
 class Places(Served):
     def test_a_server_without_a_place_is_busy(self):
         server = self.begun("--callers", "1", journal=None)
-        with Book.connect(server.address, retry=60) as first:
+        with Book.connect(server.address, retry=PATIENCE) as first:
             self.assertEqual(first.items(), [])
             for _ in range(50):
                 with self.assertRaises(Busy):
                     Book.connect(server.address)
             with self.assertRaises(Busy):
                 Book.connect(server.address, retry=0.1)
-        self.assertEqual(Book.connect(server.address, retry=60).items(), [])
+        self.assertEqual(Book.connect(server.address, retry=PATIENCE).items(), [])
 
     def test_a_caller_that_idles_makes_room(self):
         server = self.begun("--callers", "2", "--idle", "0.2", journal=None, machine=LOOP)
-        first, second = Book.connect(server.address, retry=60), Book.connect(server.address, retry=60)
+        first, second = Book.connect(server.address, retry=PATIENCE), Book.connect(server.address, retry=PATIENCE)
         second.start("a", "p", {})
         time.sleep(0.3)
         second.items()
-        third = Book.connect(server.address, retry=60)
+        third = Book.connect(server.address, retry=PATIENCE)
         self.assertEqual((third.items(), second.items()), ([], []))
         with self.assertRaises(ConnectionLost):
             first.items()
 
     def test_a_caller_that_is_owed_a_reply_isnt_idle(self):
-        server = self.begun("--callers", "1", "--idle", "0", journal=None, machine=LOOP)
-        book = Book.connect(server.address, retry=60)
+        words = ("--callers", "1", "--idle", "0")
+        server = self.begun(*words, journal=None, machine=LOOP, program=self.held_program())
+        book = Book.connect(server.address, retry=PATIENCE)
         book.start("a", "p", {})
         with concurrent.futures.ThreadPoolExecutor(1) as threads:
             drive = threads.submit(book.drive, 30000)
-            time.sleep(0.05)
-            while not drive.done():
-                try:
-                    Book.connect(server.address).close()
-                except Busy:
-                    pass
-            self.assertIn(len(drive.result()), (30000,))
+            self.until_held()
+            for _ in range(20):
+                self.assertRaises(Busy, Book.connect, server.address)
+            self.let_go()
+            self.assertEqual(len(drive.result()), 30000)
 
     def test_replies_that_nobody_reads_are_bounded(self):
         server = self.begun("--unread", "4", journal=None, machine=ECHO)
@@ -286,7 +279,7 @@ class OtherAddresses(Served):
         for listen, form in (("127.0.0.1:0", "127.0.0.1:"), ("localhost:0", "localhost:")):
             server = self.serve("--listen", listen, journal=None)
             self.assertTrue(server.address.startswith(form) and not server.address.endswith(":0"), server.address)
-            with Book.connect(server.address, retry=60) as book:
+            with Book.connect(server.address, retry=PATIENCE) as book:
                 book.table("items", {"id": "S"})
                 self.assertEqual(book.items(), [])
             self.assertEqual(server.end(), (0, ""))

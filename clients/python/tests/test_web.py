@@ -6,7 +6,7 @@ import stat
 
 from rollback_client import Book
 from tests.pages import JSON, WithPages, python_with
-from tests.program import follower
+from tests.program import PATIENCE, follower
 
 
 class Guards(WithPages):
@@ -136,21 +136,25 @@ class Gives(WithPages):
 
     def test_a_drive_that_nobody_waits_for(self):
         """It ends with the piece at hand, as that of a caller of the socket who disconnects."""
+        self.server.end()
+        self.server = self.served("--log", self.log, program=self.held_program(), journal="held.db")
+        self.who = self.page(self.server)
         self.who.line("table items id:S []")
         self.who.line("define loop " + json.dumps({"StartAt": "A", "States": {"A": {"Type": "Pass", "Next": "A"}}}))
         self.who.line("start one loop {}")
-        connection = http.client.HTTPConnection(self.who.host, timeout=60)
+        connection = http.client.HTTPConnection(self.who.host, timeout=PATIENCE)
         headers = {"Content-Type": JSON, "Cookie": self.who.cookie, "Origin": f"http://{self.who.host}"}
         connection.request("POST", "/line", b'{"line":"drive 65000"}', {**headers, "Sec-Fetch-Site": "same-origin"})
-        with Book.connect(self.server.address, timeout=60) as book:
-            self.until(lambda: book.show("one").moves > 0)
-            connection.close()
-            self.until(lambda: self.log_has("drive 65000"))
+        self.until_held()
+        connection.close()
+        self.let_go()
+        self.until(lambda: self.log_has("drive 65000"))
+        with Book.connect(self.server.address, timeout=PATIENCE) as book:
             self.assertLess(book.show("one").moves, 60_000)
 
     def log_has(self, line):
         with open(self.log, encoding="utf-8") as file:
-            return any(json.loads(entry)["line"] == line for entry in file)
+            return any(json.loads(entry)["line"] == line for entry in file if entry.endswith("\n"))
 
     def test_questions(self):
         self.assertEqual(self.who.get("/ask").status, 400)
@@ -270,7 +274,7 @@ class Words(WithPages):
     def test_beside_the_socket(self):
         server = self.served()
         who = self.page(server)
-        with Book.connect(server.address, timeout=60) as book:
+        with Book.connect(server.address, timeout=PATIENCE) as book:
             book.table("items", {"id": "S"})
         self.assertEqual(who.question("log 0 5")["log"][0]["command"], "table")
         self.assertEqual(server.end()[0], 0)

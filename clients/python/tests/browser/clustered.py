@@ -6,6 +6,7 @@ import unittest
 
 from tests.browser.driving import InBrowser
 from tests.cluster_machines import Cluster, what_is_missing
+from tests.program import PATIENCE
 
 MISSING = what_is_missing()
 SETUP = ("table items id:S []", 'define p {"StartAt":"P","States":{"P":{"Type":"Pass","End":true}}}', "start one p {}")
@@ -18,12 +19,12 @@ class Machines:
         self.loop = asyncio.new_event_loop()
         self.thread = threading.Thread(target=self.loop.run_forever, daemon=True)
         self.thread.start()
-        self.cluster = Cluster(2, ask="--run", http=("--token", "ann"))
+        self.cluster = Cluster(ask="--run", http=("--token", "ann"))
         self.run(self.cluster.__aenter__())
 
     def run(self, coroutine):
         """What a coroutine gives."""
-        return asyncio.run_coroutine_threadsafe(coroutine, self.loop).result(120)
+        return asyncio.run_coroutine_threadsafe(coroutine, self.loop).result(PATIENCE)
 
     def end(self):
         """Ends all processes."""

@@ -20,13 +20,12 @@ from selenium.webdriver.remote.remote_connection import RemoteConnection
 
 from rollback_client import Book
 from tests.pages import WithPages
-from tests.program import PROGRAM, TOP, follower
+from tests.program import PATIENCE, PROGRAM, TOP, follower
 
 WIDTH, HEIGHT = 1280, 800
 # How long is waited at most, for a machine that does much else. Nothing that is there is waited for.
-SECONDS = 60
-OF_A_PAGE = 120
-OF_A_CALL = 300
+SECONDS = OF_A_PAGE = 600
+OF_A_CALL = PATIENCE
 CLICKABLE = "a, button, summary"
 # What a driver says of an element or a page that was drawn anew, or is still to be drawn.
 MOVED = (
@@ -184,7 +183,7 @@ class InBrowser(WithPages):
 
     def open_console(self, server):
         """The page of a server in the browser, and a caller of its socket."""
-        self.book = Book.connect(server.address, timeout=60)
+        self.book = Book.connect(server.address, timeout=PATIENCE)
         self.addCleanup(self.book.close)
         self.driver.get(server.links["console"])
         self.address = self.driver.current_url.split("#")[0]

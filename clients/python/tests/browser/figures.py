@@ -8,7 +8,7 @@ from rollback_client import Book
 from tests.browser.driving import InBrowser
 from tests.browser.many import Large
 from tests.pages import Page
-from tests.program import ECHO, LOOP
+from tests.program import ECHO, LOOP, PATIENCE
 
 TIMES = 5
 SECONDS = 2.0
@@ -64,7 +64,7 @@ class Figures(InBrowser):
         """Lines a second of eight callers, with and without streams of events."""
         server = self.served()
         who = Page(server.links["console"])
-        with Book.connect(server.address, timeout=60) as book:
+        with Book.connect(server.address, timeout=PATIENCE) as book:
             book.table("items", {"id": "S"})
             book.define("loop", LOOP)
             for number in range(8):
@@ -79,7 +79,7 @@ class Figures(InBrowser):
                 stream[0].close()
 
     def listen(self, who):
-        connection = http.client.HTTPConnection(who.host, timeout=60)
+        connection = http.client.HTTPConnection(who.host, timeout=PATIENCE)
         connection.request("GET", "/events", headers={"Cookie": who.cookie, "Sec-Fetch-Site": "same-origin"})
         response = connection.getresponse()
         count = [0]
@@ -99,7 +99,7 @@ class Figures(InBrowser):
         counts = [0] * 8
 
         def give(number):
-            with Book.connect(server.address, timeout=60) as book:
+            with Book.connect(server.address, timeout=PATIENCE) as book:
                 while time.monotonic() < ends:
                     book.step(f"e{number}")
                     counts[number] += 1
