@@ -117,13 +117,11 @@ SettledStaysSettled = (log : Log) (entries : List Entry) (step : Step) → In st
 -- What is left of a hold after one more entry: a definition, a start and a step leave it as it was, an undoing takes its step
 -- out, and a rollback the steps that it takes back.
 abbrev pub left_after : Log → Entry → List TakenStep
-left_after log (Define name machine) = left_of log
-left_after log (Start exec machine input) = left_of log
-left_after log (Stepped name kind) = left_of log
 left_after log (Undo name) = filter (λ t. not (is_same_step name (name_of t.step))) (left_of log)
 left_after log (Rollback name undone) = without (steps (setting_of log)) (consequences_of log name) (left_of log)
 left_after log Settle = []
 left_after log (Hold name count) = consequences_of log name
+left_after log _ = left_of log
 
 abbrev pub LeftIsAfter : Type 0
 LeftIsAfter = (log : Log) (entry : Entry) → IsLegal log → IsAccepted log entry → left_of (appended log entry) ≡ left_after log entry
@@ -145,13 +143,9 @@ NothingIsLeft = (log : Log) → step_on_hold log ≡ None → left_of log ≡ []
 
 -- how many of the steps that are left an entry takes back
 abbrev pub lowered_by : Log → Entry → ℕ
-lowered_by log (Define name machine) = 0
-lowered_by log (Start exec machine input) = 0
-lowered_by log (Stepped name kind) = 0
 lowered_by log (Undo name) = length (filter (λ t. is_same_step name (name_of t.step)) (left_of log))
 lowered_by log (Rollback name undone) = length (filter (is_among (steps (setting_of log)) (consequences_of log name)) (left_of log))
-lowered_by log Settle = 0
-lowered_by log (Hold name count) = 0
+lowered_by log _ = 0
 
 -- the same of entries one after another
 abbrev pub entries_lowered : Log → List Entry → ℕ

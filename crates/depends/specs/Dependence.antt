@@ -15,11 +15,7 @@ use Rattle.saved_steps.specs.declared.fact.Kind.TheVariants.{Start, Plain, Call,
 
 abbrev pub is_start : Kind → Bool
 is_start Start = true
-is_start Plain = false
-is_start Call = false
-is_start Fork = false
-is_start Join = false
-is_start Terminate = false
+is_start _ = false
 
 -- the step is the start of the thread's execution
 abbrev pub begins : Fact → Thread → Bool

@@ -85,11 +85,7 @@ AnswersBeginning begin = AnswersBegin begin (begun_table begin)
 -- the items are a list
 abbrev pub AnswersItems : List ℕ → KeySchema → Data → List ℕ → Option Log → Type 0
 AnswersItems name schema (list ds) = AnswersBeginning (record { table = name; schema = schema; items = values_in ds })
-AnswersItems name schema null = AnswersUnchanged (refused_by bad_beginning 1) None
-AnswersItems name schema (boolean b) = AnswersUnchanged (refused_by bad_beginning 1) None
-AnswersItems name schema (whole z) = AnswersUnchanged (refused_by bad_beginning 1) None
-AnswersItems name schema (text s) = AnswersUnchanged (refused_by bad_beginning 1) None
-AnswersItems name schema (fields ms) = AnswersUnchanged (refused_by bad_beginning 1) None
+AnswersItems name schema _ = AnswersUnchanged (refused_by bad_beginning 1) None
 
 abbrev pub AnswersTable : List ℕ → KeySchema → List ℕ → List ℕ → Option Log → Type 0
 AnswersTable name schema json reply after =
@@ -286,20 +282,7 @@ AnswersOpen log command_view.held = AnswersUnchanged (names_reply (left_names lo
 -- before its table is given
 abbrev pub AnswersClosed : CommandView → List ℕ → Option Log → Type 0
 AnswersClosed (command_view.table name schema json) = AnswersTable name schema json
-AnswersClosed (command_view.define name json) = AnswersUnchanged (refused no_table) None
-AnswersClosed (command_view.start exec machine json) = AnswersUnchanged (refused no_table) None
-AnswersClosed (command_view.step thread) = AnswersUnchanged (refused no_table) None
-AnswersClosed (command_view.undo name) = AnswersUnchanged (refused no_table) None
-AnswersClosed (command_view.plan name) = AnswersUnchanged (refused no_table) None
-AnswersClosed (command_view.rollback name) = AnswersUnchanged (refused no_table) None
-AnswersClosed command_view.settle = AnswersUnchanged (refused no_table) None
-AnswersClosed (command_view.hold name) = AnswersUnchanged (refused no_table) None
-AnswersClosed (command_view.drive count) = AnswersUnchanged (refused no_table) None
-AnswersClosed (command_view.work workers moves) = AnswersUnchanged (refused no_table) None
-AnswersClosed (command_view.show thread) = AnswersUnchanged (refused no_table) None
-AnswersClosed command_view.items = AnswersUnchanged (refused no_table) None
-AnswersClosed command_view.history = AnswersUnchanged (refused no_table) None
-AnswersClosed command_view.held = AnswersUnchanged (refused no_table) None
+AnswersClosed _ = AnswersUnchanged (refused no_table) None
 
 abbrev pub AnswersCommand : Option Log → CommandView → List ℕ → Option Log → Type 0
 AnswersCommand None command = AnswersClosed command

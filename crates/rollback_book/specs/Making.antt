@@ -76,11 +76,8 @@ AnswersMade log (change.Hold step) result = AnswersHold log step.now result
 
 -- a start's execution has no branches, and its input nests at most 127 deep
 abbrev pub IsProperChange : Change → Type 0
-IsProperChange (change.Define name d) = Unit {0}
 IsProperChange (change.Start exec machine input) = (exec.now.path ≡ []) × (depth (data_of input) ≤ most_levels)
-IsProperChange (change.Step thread) = Unit {0}
-IsProperChange change.Settle = Unit {0}
-IsProperChange (change.Hold step) = Unit {0}
+IsProperChange _ = Unit {0}
 
 -- ---- what can be entered
 

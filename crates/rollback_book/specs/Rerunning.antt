@@ -21,13 +21,8 @@ Origin = List ℕ × Json
 
 -- what this entry starts the execution with
 abbrev pub start_in : Thread → Entry → Option Origin
-start_in t (Define name machine) = None
 start_in t (Start exec machine input) = if is_same_thread t exec then Some (machine, input) else None
-start_in t (Stepped name kind) = None
-start_in t (Undo name) = None
-start_in t (Rollback name undone) = None
-start_in t Settle = None
-start_in t (Hold name count) = None
+start_in t _ = None
 
 abbrev pub or_earlier : Option Origin → Option Origin → Option Origin
 or_earlier (Some origin) earlier = Some origin
@@ -67,9 +62,4 @@ is_numbered (Some f) number = f.count == number - 1
 -- where the entry is a definition, it is accepted
 abbrev pub MayDefine : Log → Entry → Type 0
 MayDefine log (Define name machine) = IsAccepted log (Define name machine)
-MayDefine log (Start exec machine input) = Unit {0}
-MayDefine log (Stepped name kind) = Unit {0}
-MayDefine log (Undo name) = Unit {0}
-MayDefine log (Rollback name undone) = Unit {0}
-MayDefine log Settle = Unit {0}
-MayDefine log (Hold name count) = Unit {0}
+MayDefine log _ = Unit {0}
