@@ -13,7 +13,7 @@ use Rattle.book_log.specs.Answers.{undo_answer, order_answer, plan_answer, rerun
 use Rattle.book_log.specs.Legal.{IsAccepted, GoesOnLegally, IsLegal}
 use Rattle.book_log.specs.Log.{Log, appended, base_of, settled, remaining, step_on_hold, left_of, machine_of, setting_of, run_of, world_of, past_of, consequences_of}
 use Rattle.book_log.specs.declared.entry.Entry.{Entry}
-use Rattle.book_log.specs.declared.entry.Entry.TheVariants.{Define, Start, Step as Stepped, Undo, Rollback, Settle, Hold}
+use Rattle.book_log.specs.declared.entry.Entry.TheVariants.{Start, Step as Stepped, Undo, Rollback, Settle, Hold}
 use Rattle.book_log.specs.declared.refusal.Refusal.{Refusal}
 use Rattle.book_log.specs.declared.refusal.Refusal.TheVariants.{NoStep, HasDependents, Settled}
 use Rattle.asl_machine.specs.PathSame.{IsExact}

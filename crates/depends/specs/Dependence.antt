@@ -11,7 +11,7 @@ use Rattle.saved_steps.specs.World.{is_same_thread}
 use Rattle.saved_steps.specs.declared.fact.Access.{Access}
 use Rattle.saved_steps.specs.declared.fact.Fact.{Fact}
 use Rattle.saved_steps.specs.declared.fact.Kind.{Kind}
-use Rattle.saved_steps.specs.declared.fact.Kind.TheVariants.{Start, Plain, Call, Fork, Join, Terminate}
+use Rattle.saved_steps.specs.declared.fact.Kind.TheVariants.{Start}
 
 abbrev pub is_start : Kind → Bool
 is_start Start = true

@@ -1,5 +1,5 @@
 -- Why a later step depends directly on an earlier one: the first case of the definition that holds.
-use Rattle.std.specs.Prelude.{◌≡◌, Bool, true, false, Option, None, Some, is_some, if◌then◌else◌}
+use Rattle.std.specs.Prelude.{◌≡◌, Option, None, Some, is_some, if◌then◌else◌}
 use Rattle.saved_steps.specs.Steps.{makes, closes}
 use Rattle.saved_steps.specs.World.{is_same_thread}
 use Rattle.saved_steps.specs.declared.fact.Fact.{Fact}

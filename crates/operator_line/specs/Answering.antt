@@ -7,7 +7,7 @@ use Rattle.book_log.specs.declared.entry.Entry.{Entry}
 use Rattle.book_log.specs.declared.entry.Entry.TheVariants.{Define, Start, Step as Stepped, Undo, Rollback, Settle, Hold}
 use Rattle.book_rounds.specs.Rounds.{AreSteps, with_entries}
 use Rattle.command_lines.specs.Grammar as command_view
-use Rattle.command_lines.specs.Grammar.{CommandView, command_of}
+use Rattle.command_lines.specs.Grammar.{CommandView}
 use Rattle.reply_lines.specs.Replies.{names_reply}
 use Rattle.operator_line.specs.Answers.{AnswersLine, AnswersView, AnswersCommand, HasNoRoom}
 use Rattle.operator_line.specs.Serving.{IsWork}

@@ -6,7 +6,7 @@ use Rattle.std.specs.Ordering.{eq_by_cmp}
 use Rattle.std.specs.declared.cmp.Ordering.TheVariants.{Less}
 use Rattle.serde_json.specs.Data as source
 use Rattle.serde_json.specs.Read as source_text
-use Rattle.json_tree.specs.Data.{Data, Items, null, boolean, whole, text, list, fields, no_items, item}
+use Rattle.json_tree.specs.Data.{Data, Items, list, no_items, item}
 use Rattle.json_tree.specs.Reading.{source_of, whole_of}
 use Rattle.json_tree.specs.View.{data_of}
 use Rattle.json_tree.specs.Written.{text_of}

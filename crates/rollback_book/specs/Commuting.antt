@@ -2,12 +2,12 @@
 -- Systems", 2004), as the calls of a book answer for it.
 use Rattle.std.specs.Prelude.{◌≡◌, ◌↔◌, List, map, Some, Result, Ok, Err}
 use Rattle.step_names.specs.declared.step.StepName.{StepName}
-use Rattle.trace_theory.specs.Traces.{In, IsRun, IsBackwardOrder, IsLinearization, run, without}
+use Rattle.trace_theory.specs.Traces.{In, IsLinearization, run}
 use Rattle.saved_steps.specs.Steps.{Step, name_of}
 use Rattle.saved_steps.specs.World.{World}
 use Rattle.depends.specs.Instance.{steps}
 use Rattle.step_history.specs.History.{TakenStep}
-use Rattle.book_log.specs.Answers.{names_of_facts, order_answer}
+use Rattle.book_log.specs.Answers.{order_answer}
 use Rattle.book_log.specs.Laws.{LeavesTheSame}
 use Rattle.book_log.specs.Legal.{IsLegal}
 use Rattle.book_log.specs.Log.{Log, base_of, settled, consequences_of, machine_of, past_of, remaining, setting_of, world_of}

@@ -1,23 +1,22 @@
 -- What is made ready of a command before it is entered.
-use Rattle.std.specs.Prelude.{◌≡◌, ◌+◌, ◌≤◌, ◌⊎◌, ◌==◌, ℕ, Bool, List, [], ◌++◌, length, slice_get, Some, None, option_map, Result, Ok, Err}
+use Rattle.std.specs.Prelude.{◌≡◌, ◌+◌, ◌≤◌, ◌⊎◌, ◌==◌, ℕ, Bool, List, [], ◌++◌, length, slice_get, Some, None, Result, Ok, Err}
 use Rattle.json_tree.specs.Data.{depth, most_levels}
 use Rattle.json_tree.specs.View.{data_of}
 use Rattle.serde_json.specs.View.{view}
 use Rattle.asl_tree.specs.Definition.{Definition}
 use Rattle.asl_machine.specs.Profile.{Defines}
-use Rattle.depends.specs.Plans.{plan}
 use Rattle.saved_steps.specs.Effects as effects
 use Rattle.saved_steps.specs.Made.{CanApply, IsMadeFor}
 use Rattle.saved_steps.specs.Steps.{Step, started, moved}
 use Rattle.saved_steps.specs.declared.made.Made.{Made as MadeStep}
-use Rattle.step_history.specs.History.{TakenStep, HasRoom, history_records, history_world}
+use Rattle.step_history.specs.History.{HasRoom, history_records, history_world}
 use Rattle.step_history.specs.SettledNames.{HasRoomFor}
 use Rattle.saved_steps.specs.declared.record.StepRecord.{StepRecord}
 use Rattle.step_names.specs.Thread.{Thread}
 use Rattle.step_names.specs.declared.step.StepName.{StepName}
-use Rattle.book_log.specs.Answers.{IsDefineRefusal, HoldLacks, SettleLacks, StepLacks, hold_answer, settle_answer, start_answer, step_answer, plan_answer}
+use Rattle.book_log.specs.Answers.{IsDefineRefusal, HoldLacks, SettleLacks, hold_answer, settle_answer, start_answer, step_answer}
 use Rattle.book_log.specs.Legal.{IsAccepted}
-use Rattle.book_log.specs.Log.{Log, consequences_of, log_facts, setting_of, world_of}
+use Rattle.book_log.specs.Log.{Log, consequences_of, setting_of, world_of}
 use Rattle.book_log.specs.declared.entry.Entry.{Entry}
 use Rattle.book_log.specs.declared.entry.Entry.TheVariants.{Define, Start, Step as Stepped, Settle, Hold}
 use Rattle.book_log.specs.declared.moved.Moved.{Moved}
@@ -25,7 +24,6 @@ use Rattle.book_log.specs.declared.refusal.Refusal.{Refusal}
 use Rattle.book_log.specs.declared.refusal.Refusal.TheVariants.{Memory}
 use Rattle.book_events.specs.Planned.{IsMoveRefusal, OrMemory}
 use Rattle.rollback_book.specs.Book.{BookView, machine_place}
-use Rattle.book_events.specs.Rest.{IsBackwardOrderOf}
 use Rattle.std.specs.List.{list_any}
 use Rattle.step_index.specs.Held.{AreLeft}
 use Rattle.rollback_book.specs.Holding.{HasHeldRoom, IsHoldFor}
@@ -37,7 +35,6 @@ use Rattle.rollback_book.specs.declared.making.Entered.TheVariants as entered
 use Rattle.rollback_book.specs.declared.making.Made.{Made}
 use Rattle.rollback_book.specs.declared.making.MadeChange.{MadeChange}
 use Rattle.rollback_book.specs.declared.making.MadeChange.TheVariants as made
-use Rattle.book_events.specs.declared.room.PlanRoom.{PlanRoom}
 
 -- ---- what is answered
 

@@ -1,6 +1,5 @@
 -- What is worked out of a command before everything is made for it.
-use Rattle.std.specs.Prelude.{◌≡◌, ◌+◌, ◌<◌, ◌^◌, ◌&&◌, ℕ, List, Bool, not, true, false, IsSome, Option, None, Some, Ok}
-use Rattle.std.specs.declared.cmp.Ordering.TheVariants.{Less}
+use Rattle.std.specs.Prelude.{◌≡◌, ◌+◌, ◌<◌, ◌^◌, ◌&&◌, ℕ, List, true, false, IsSome, None, Some, Ok}
 use Rattle.json_tree.specs.declared.tree.Json.{Json}
 use Rattle.step_history.specs.Frame.{Frame}
 use Rattle.step_history.specs.Phase.TheVariants.{Ready}
@@ -15,8 +14,7 @@ use Rattle.saved_steps.specs.declared.next.Next.{Next}
 use Rattle.saved_steps.specs.declared.next.Next.TheVariants.{Begin}
 use Rattle.step_history.specs.History.{HasRoom, history_world}
 use Rattle.step_history.specs.Levels.{HasNamesBelow}
-use Rattle.step_names.specs.Order.{thread_cmp}
-use Rattle.step_names.specs.Thread.{Thread, IsThread}
+use Rattle.step_names.specs.Thread.{Thread}
 use Rattle.step_names.specs.declared.step.StepName.{StepName}
 use Rattle.book_log.specs.Answers.{effect_answer, is_enabled, is_full_for_step, needed_left, start_answer, step_answer}
 use Rattle.book_log.specs.Log.{Log, step_on_hold, setting_of, world_of}

@@ -4,7 +4,6 @@ use Rattle.std.specs.declared.vec.Vec.{Vec}
 use Rattle.book_log.specs.Log.{Log, left_of}
 use Rattle.book_log.specs.declared.entry.Entry.{Entry}
 use Rattle.book_log.specs.declared.entry.Entry.TheVariants.{Undo}
-use Rattle.book_log.specs.declared.refusal.Refusal.{Refusal}
 use Rattle.book_log.specs.declared.refusal.Refusal.TheVariants.{Memory, NoStep}
 use Rattle.shared_book.specs.Calls.{IsRefusedFor, MaySee}
 use Rattle.shared_book.specs.Views.{PassView}
