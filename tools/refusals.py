@@ -184,8 +184,8 @@ WAYS = {
     "shared_book::SharedCommitRefusal::Stale": test("shared_tests", r'want: "gone"'),
     "shared_book::SharedCommitRefusal::Held": test("shared_tests", r'want: "held"'),
     "shared_book::SharedCommitRefusal::Refused": ("growths",),
-    "shared_book::CloseRefusal::ForeignPass": never(FOREIGN),
-    "shared_book::CloseRefusal::Missing": test("shared_tests", r"CloseRefusal::Missing"),
+    "shared_book::CloseFault::ForeignPass": never(FOREIGN),
+    "shared_book::CloseFault::Missing": test("shared_tests", r"CloseFault::Missing"),
     "step_names::NameFault::BadName": value("thread", "no name"),
 }
 

@@ -5,8 +5,8 @@ use Rattle.book_log.specs.declared.entry.Entry.{Entry}
 use Rattle.shared_book.specs.Numbers.{IsForeign, IsKnown, IsLogged, last_of}
 use Rattle.shared_book.specs.Views.{PassView, ExtendsLog}
 use Rattle.shared_book.specs.declared.receipt.Receipt.{Receipt}
-use Rattle.shared_book.specs.declared.refusal.CloseRefusal.{CloseRefusal}
-use Rattle.shared_book.specs.declared.refusal.CloseRefusal.TheVariants.{Missing, ForeignPass, Memory}
+use Rattle.shared_book.specs.declared.refusal.CloseFault.{CloseFault}
+use Rattle.shared_book.specs.declared.refusal.CloseFault.TheVariants.{Missing, ForeignPass, Memory}
 
 -- the receipts of all passes
 abbrev pub all_receipts : List PassView → List Receipt
@@ -52,13 +52,13 @@ abbrev pub SomeForeign : List Entry → List PassView → ℕ → Option Entry �
 SomeForeign entries ps number there = (i : ℕ) × (p : PassView) × (slice_get ps i ≡ Some p) × IsForeignPass entries p number there
 
 -- a pass is of another book, or an entry from this number on has no receipt
-abbrev pub IsUnsettled : ℕ → List Entry → List PassView → CloseRefusal → Type 0
+abbrev pub IsUnsettled : ℕ → List Entry → List PassView → CloseFault → Type 0
 IsUnsettled first entries ps (Missing number) = (first ≤ number) × (number ≤ length entries) × (receipt_times number (all_receipts ps) ≡ 0)
 IsUnsettled first entries ps (ForeignPass number there) = SomeForeign entries ps number there
 IsUnsettled first entries ps Memory = Unit {0}
 
 -- for what stands at this number, or for memory
-abbrev pub IsForeignReason : ℕ → Option Entry → CloseRefusal → Type 0
+abbrev pub IsForeignReason : ℕ → Option Entry → CloseFault → Type 0
 IsForeignReason n entry (ForeignPass number there) = (number ≡ n) × (there ≡ entry)
 IsForeignReason n entry Memory = Unit {0}
 IsForeignReason n entry (Missing number) = ⊥

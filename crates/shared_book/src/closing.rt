@@ -12,7 +12,7 @@ use crate::desk::Desk;
 use crate::marks::missing;
 use crate::pass::Pass;
 use crate::receipt::Receipt;
-use crate::refusal::CloseRefusal;
+use crate::refusal::CloseFault;
 use crate::shared::Shared;
 use crate::sharing::Sharing;
 use book_events::Events;
@@ -24,7 +24,7 @@ use std::sync::ledger::{Book, Ledger, Share};
 /// A shared book that could not be closed, with all that was handed in.
 #[derive(Drop)]
 pub struct CloseRefusal<B: Events, L: Sharing> {
-    pub reason: CloseRefusal,
+    pub reason: CloseFault,
     pub shared: Shared<B, L>,
     pub passes: Vec<Pass<L>>,
 }
@@ -103,21 +103,21 @@ fn gather<L: Ledger>(calls: &mut Book<L>, spare: Share<L>, passes: Vec<Pass<L>>)
 }
 
 /// Why a foreign pass keeps a book from being closed. Takes memory for a copy of the entry that stands there.
-fn foreign_reason(foreign: Foreign<'_>) -> CloseRefusal
+fn foreign_reason(foreign: Foreign<'_>) -> CloseFault
     ensures { IsForeignReason foreign.entry.number (option_copied foreign.entry.there) result }
 {
     match copied(foreign.there) {
-        Ok(there) => CloseRefusal::ForeignPass {
+        Ok(there) => CloseFault::ForeignPass {
             number: foreign.number,
             there,
         },
-        Err(AllocError) => CloseRefusal::Memory,
+        Err(AllocError) => CloseFault::Memory,
     }
 }
 
 impl<B: Events, L: Sharing> Desk<B, L> {
     /// Whether the passes have a receipt for each entry since the book was shared, and none of another book.
-    fn settle(&self, alloc: Global, passes: &[Pass<L>]) -> Result<(), CloseRefusal>
+    fn settle(&self, alloc: Global, passes: &[Pass<L>]) -> Result<(), CloseFault>
         ensures settled { MatchResult result
             (λ _. IsSettled self.now.log.entries self.now.first passes.now)
             (IsUnsettled self.now.first self.now.log.entries passes.now) }
@@ -130,9 +130,9 @@ impl<B: Events, L: Sharing> Desk<B, L> {
             return Err(foreign_reason(foreign));
         }
         match missing(alloc, passes, self.first, entries.len() + 1) {
-            Ok(Some(number)) => Err(CloseRefusal::Missing { number }),
+            Ok(Some(number)) => Err(CloseFault::Missing { number }),
             Ok(None) => Ok(()),
-            Err(AllocError) => Err(CloseRefusal::Memory),
+            Err(AllocError) => Err(CloseFault::Memory),
         }
     }
 

@@ -24,6 +24,6 @@ pub use closing::{CloseRefusal, close};
 pub use looking::{HeldLeft, Shown};
 pub use pass::Pass;
 pub use receipt::Receipt;
-pub use refusal::{CloseRefusal, SharedCommitRefusal, SharedRefusal};
+pub use refusal::{CloseFault, SharedCommitRefusal, SharedRefusal};
 pub use shared::{PARTS, Shared, share};
 pub use sharing::Sharing;

@@ -49,7 +49,7 @@ impl SharedCommitRefusal {
 
 /// Why a shared book isn't closed.
 #[derive(Debug, Drop)]
-pub enum CloseRefusal {
+pub enum CloseFault {
     /// A pass is of another book: what stands at this number isn't what it has seen.
     ForeignPass { number: usize, there: Option<Entry> },
     /// None of the passes has a receipt for this entry.

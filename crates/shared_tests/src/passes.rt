@@ -5,7 +5,7 @@ use crate::beside::{Undone, undo_beside};
 use crate::calls::{Act, PASS, Seats, book_with, is_told, seats_of};
 use rollback_book::Book;
 use rollback_book::turns::{Frame, Phase};
-use shared_book::{CloseRefusal, CloseRefusal, PARTS, Pass, Shared, Sharing, close, known};
+use shared_book::{CloseFault, CloseRefusal, PARTS, Pass, Shared, Sharing, close, known};
 use std::alloc::{AllocError, Global};
 use std::marker::Brand;
 use std::sync::Wait;
@@ -16,11 +16,11 @@ use step_names::ThreadName;
 
 // ---- what a close tells
 
-fn missing(reason: CloseRefusal) -> Result<usize, Fail> {
+fn missing(reason: CloseFault) -> Result<usize, Fail> {
     match reason {
-        CloseRefusal::Missing { number } => Ok(number),
-        CloseRefusal::ForeignPass { .. } => Err("a foreign pass".into()),
-        CloseRefusal::Memory => Err(AllocError.into()),
+        CloseFault::Missing { number } => Ok(number),
+        CloseFault::ForeignPass { .. } => Err("a foreign pass".into()),
+        CloseFault::Memory => Err(AllocError.into()),
     }
 }
 

@@ -5,7 +5,7 @@ use crate::calls::{PASS, book_with};
 use json_tree::{Text, depth, read};
 use rollback_book::turns::Phase;
 use rollback_book::{Book, Entry};
-use shared_book::{CloseRefusal, PARTS, Pass, Shared, Sharing, close, share};
+use shared_book::{CloseFault, PARTS, Pass, Shared, Sharing, close, share};
 use std::alloc::{AllocError, Global};
 use std::marker::Brand;
 use std::sync::Wait;
@@ -153,7 +153,7 @@ pub(crate) fn run<L: Sharing + Send + Sync, G: Gate + Sync, R: Threads + Wait + 
             taken: numbers,
         }),
         Err(refusal) => {
-            let is_short = matches!(&refusal.reason, CloseRefusal::Memory);
+            let is_short = matches!(&refusal.reason, CloseFault::Memory);
             drop(refusal);
             if is_short {
                 return Err(AllocError.into());
