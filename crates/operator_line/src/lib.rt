@@ -5,8 +5,8 @@ mod driving;
 mod laws;
 mod line;
 mod open_session;
+mod serving;
 mod session;
-mod worker;
 mod working;
 
 pub use command_lines::{Command, CommandFault, Execution, lines_are_spelled};
