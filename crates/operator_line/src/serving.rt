@@ -349,7 +349,7 @@ pub fn write_all<W: Write>(writer: &mut W, reply: &[u8]) -> Result<(), ServeFaul
 ///
 /// `Write` where the writer refuses.
 pub fn flush<W: Write>(writer: &mut W) -> Result<(), ServeFault>
-    ensures kept_front { Keeps (W.contents writer.old) (W.contents writer.new) }
+    ensures kept { Keeps (W.contents writer.old) (W.contents writer.new) }
     ensures err { IfErr result (λ e. e ≡ ServeFault.Write) }
 {
     match writer.flush() {
