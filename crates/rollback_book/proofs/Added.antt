@@ -40,8 +40,6 @@ use Rattle.rollback_book.specs.Holding.{AddsUnheld, HasHeldRoom, KeepsHold}
 use Rattle.rollback_book.specs.Making.{CanEnter, CanEnterChange, HasLogRoom, IsStepFor}
 use Rattle.rollback_book.specs.declared.hold.Hold.{Hold}
 use Rattle.rollback_book.specs.Ready.{IsMadeIn, IsStartOf}
-use Rattle.rollback_book.specs.declared.making.Entered.{Entered}
-use Rattle.rollback_book.specs.declared.making.Entered.TheVariants.{Defined}
 use Rattle.rollback_book.specs.declared.making.Made.{Made}
 use Rattle.rollback_book.specs.declared.making.MadeChange.TheVariants as made
 use Rattle.rollback_book.proofs.Refusing.{start_not_full, step_not_full}
@@ -221,10 +219,10 @@ has_place b (HoldEntry n count) name machine fits = absurd fits
 
 -- ---- a start for which everything is made
 
-pub start_ready : (before after : BookView) (exec : Thread) (machine : List ℕ) (input : Json) (f : Frame) (name : StepName) (told : Entered) (m : MadeStep) → after.log ≡ before.log
+pub start_ready : (before after : BookView) (exec : Thread) (machine : List ℕ) (input : Json) (f : Frame) (name : StepName) (m : MadeStep) → after.log ≡ before.log
     → IsStartOf before exec machine input f → name ≡ start_name exec.exec → IsMadeIn before after name (Begin f) m → HasLogRoom after → exec.path ≡ [] → depth (data_of input) ≤ 127
-    → CanEnter after (record { entry = Start exec machine input; answer = told; change = made.Step m })
-start_ready before after exec machine input f name told m same start named step room root shallow =
+    → CanEnter after (record { entry = Start exec machine input; change = made.Step m })
+start_ready before after exec machine input f name m same start named step room root shallow =
     let d : effects.own_effect kind.Start (start_name exec.exec) f ≡ step.effect = ap (λ (n : StepName). effects.own_effect kind.Start n f) (sym named) ∙ same_Some _ _ step.is in
     record {
       is_accepted = (ap (λ (x : Log). start_answer x exec machine) same ∙ start.answer, root, shallow);
@@ -240,10 +238,10 @@ start_ready before after exec machine input f name told m same start named step 
     }
 
 -- a definition for which everything is made
-pub define_ready : (before after : BookView) (name : List ℕ) (machine : Definition) (r : Made) → r ≡ record { entry = Define name machine; answer = Defined; change = made.Define name machine } → after.log ≡ before.log
+pub define_ready : (before after : BookView) (name : List ℕ) (machine : Definition) (r : Made) → r ≡ record { entry = Define name machine; change = made.Define name machine } → after.log ≡ before.log
     → machine_of before.log name ≡ None → is_full_for_define before.log ≡ false → IsWellFormedThroughout machine → machine_place after.places name ≡ Some None → HasLogRoom after → CanEnter after r
 define_ready before after name machine r is same free full whole place room =
-    let made_it : CanEnter after (record { entry = Define name machine; answer = Defined; change = made.Define name machine }) = record {
+    let made_it : CanEnter after (record { entry = Define name machine; change = made.Define name machine }) = record {
       is_accepted = (ap (λ (x : Log). machine_of x name) same ∙ free, ap is_full_for_define same ∙ full, whole);
       fits = (refl, refl, place);
       room = room;

@@ -1,5 +1,5 @@
 -- What a hold is answered, and a settlement while one stands.
-use Rattle.std.proofs.Common.{◌≡◌, ℕ, Bool, true, false, cond, length, refl, ap, ap₂, sym, subst, ◌∙◌, inl, inr, None, Some, Result, Ok, Err}
+use Rattle.std.proofs.Common.{◌≡◌, ℕ, true, false, length, refl, ap, sym, subst, ◌∙◌, inl, inr, None, Some, Result, Ok, Err}
 use Rattle.std.specs.Prelude.{◌⊎◌, IsSome, List, position, is_some}
 use Rattle.step_names.specs.declared.step.StepName.{StepName}
 use Rattle.saved_steps.specs.World.{is_same_step}
@@ -9,16 +9,14 @@ use Rattle.depends.specs.Plans.{plan}
 use Rattle.depends.proofs.Searching.{facts}
 use Rattle.book_log.specs.Answers.{HoldLacks, SettleLacks, absent, from_step, hold_answer, is_full_for_define, remains, settle_answer}
 use Rattle.book_log.specs.Log.{Log, consequences_of, step_on_hold}
-use Rattle.book_log.specs.declared.entry.Entry.{Entry}
 use Rattle.book_log.specs.declared.entry.Entry.TheVariants.{Hold as HoldEntry}
 use Rattle.book_log.specs.declared.refusal.Refusal.{Refusal}
 use Rattle.book_log.specs.declared.refusal.Refusal.TheVariants.{Full, Held, Memory}
 use Rattle.rollback_book.specs.Book.{BookView, BookInvariant, IsStepAt}
 use Rattle.rollback_book.specs.Holding.{IsHoldFor, IsHoldRefusal}
-use Rattle.rollback_book.specs.Making.{AnswersHold, CanEnter, HasLogRoom, IsMadeHold, MakesHold}
+use Rattle.rollback_book.specs.Making.{CanEnter, HasLogRoom, IsHoldAnswered, IsMadeHold, MakesHold}
 use Rattle.book_events.specs.Planned.{OrMemory}
 use Rattle.rollback_book.specs.declared.making.Made.{Made}
-use Rattle.rollback_book.specs.declared.making.Entered.TheVariants as told
 use Rattle.rollback_book.specs.declared.making.MadeChange.TheVariants as made
 use Rattle.rollback_book.proofs.Free.{remains_there}
 use Rattle.rollback_book.proofs.HoldMade.{plan_counted, plan_marked}
@@ -71,17 +69,17 @@ module _ (b : BookView) (tied : BookInvariant b) (name : StepName) (at : ℕ) (i
   pub made_hold : (places : List ℕ) → places ≡ plan (facts (history_records b.history)) at → (m : Made) → IsMadeHold name (history_records b.history) places m → MakesHold b.log (history_records b.history) name m
   made_hold places planned m h =
       let count = plan_counted b tied name at is_at places planned in
-      (h.0, h.1 ∙ ap (λ (n : ℕ). let x : Made = record { entry = HoldEntry name n; answer = told.Held n; change = made.Hold h.0 } in x) count, (h.2, h.3, plan_marked b tied name at is_at places planned h.0.left h.3 h.4))
+      (h.0, h.1 ∙ ap (λ (n : ℕ). let x : Made = record { entry = HoldEntry name n; change = made.Hold h.0 } in x) count, (h.2, h.3, plan_marked b tied name at is_at places planned h.0.left h.3 h.4))
 
 -- ---- what is made
 
-pub hold_told : (log : Log) (rs : List StepRecord) (name : StepName) (m : Made) → MakesHold log rs name m → hold_answer log name ≡ Ok (length (consequences_of log name)) → AnswersHold log name (Ok m)
-hold_told log rs name m h answer = (length (consequences_of log name), answer, (ap (λ (x : Made). x.entry) h.1, ap (λ (x : Made). x.answer) h.1))
+pub hold_told : (log : Log) (rs : List StepRecord) (name : StepName) (m : Made) → MakesHold log rs name m → hold_answer log name ≡ Ok (length (consequences_of log name)) → IsHoldAnswered log name (Ok m.entry)
+hold_told log rs name m h answer = (length (consequences_of log name), answer, ap (λ (x : Made). x.entry) h.1)
 
 pub hold_ready : (before : Log) (after : BookView) (name : StepName) (m : Made) → after.log ≡ before → MakesHold before (history_records after.history) name m → hold_answer before name ≡ Ok (length (consequences_of before name)) → HasLogRoom after → CanEnter after m
 hold_ready before after name m same h answer room =
     let count = length (consequences_of before name) in
-    let whole : CanEnter after (record { entry = HoldEntry name count; answer = told.Held count; change = made.Hold h.0 }) = record {
+    let whole : CanEnter after (record { entry = HoldEntry name count; change = made.Hold h.0 }) = record {
       is_accepted = ap (λ (s : Log). hold_answer s name) same ∙ answer;
       fits = subst (λ (s : Log). IsHoldFor s (history_records after.history) name h.0) (sym same) h.2;
       room = room;

@@ -1,12 +1,12 @@
 -- The marks of a step and its consequences, made by a plan; and how many steps marks are.
-use Rattle.std.proofs.Common.{◌≡◌, ◌<◌, ◌==◌, arith, ℕ, zero, suc, Bool, true, false, List, [], ◌∷◌, ◌++◌, length, map, refl, ap, ap₂, sym, subst, ◌∙◌, inl, inr, eq-eqb, Option, None, Some}
+use Rattle.std.proofs.Common.{◌≡◌, ◌==◌, arith, ℕ, zero, suc, Bool, true, false, List, [], ◌∷◌, ◌++◌, length, map, refl, ap, ap₂, sym, subst, ◌∙◌, inl, inr, eq-eqb, Option, None, Some}
 use Rattle.std.specs.Prelude.{filter, reverse, slice_get, option_map}
 use Rattle.std.specs.List.{list_any}
 use Rattle.std.proofs.lemmas.Bool.{eqb-true}
 use Rattle.std.proofs.lemmas.List.{length-map, length-reverse}
 use Rattle.std.proofs.lemmas.Option.{same_Some, slice_get-map, slice_get_within}
 use Rattle.step_names.specs.declared.step.StepName.{StepName}
-use Rattle.trace_theory.specs.Traces.{In, consequences, consequences_from, needs, HasNames}
+use Rattle.trace_theory.specs.Traces.{In, consequences, consequences_from, HasNames}
 use Rattle.trace_theory.proofs.After.{consequences_from-in}
 use Rattle.trace_theory.proofs.Least.{Once, consequences-in, not_backward, one_step}
 use Rattle.trace_theory.proofs.Lists.{by_bool, any_one, one_any, none_any, filter-same, In-reverse, reverse-In}
@@ -15,7 +15,6 @@ use Rattle.saved_steps.specs.Steps.{moved, name_of}
 use Rattle.saved_steps.specs.World.{Setting, World, is_same_step}
 use Rattle.depends.specs.Dependence.{depends_directly}
 use Rattle.depends.specs.Instance.{steps}
-use Rattle.depends.specs.Laws.{facts_of}
 use Rattle.depends.specs.Plans.{plan}
 use Rattle.depends.proofs.Named.{steps_have_names}
 use Rattle.depends.proofs.Searching.{facts}
@@ -31,7 +30,7 @@ use Rattle.book_log.proofs.LegalRuns.{legal_stands}
 use Rattle.book_log.proofs.Standing.{after_same, consequences_there, from_start, is_run, step_itself}
 use Rattle.rollback_book.specs.Book.{BookView, BookInvariant, IsStepAt}
 use Rattle.rollback_book.specs.Holding.{marks_by}
-use Rattle.rollback_book.proofs.Free.{Stood, stood, places_are}
+use Rattle.rollback_book.proofs.Free.{stood, places_are}
 use Rattle.rollback_book.proofs.Marks.{is_marked, counted_steps, nothing_counted}
 use Rattle.rollback_book.proofs.Tied.{as_many_records, facts_are, stands}
 

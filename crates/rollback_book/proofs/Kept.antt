@@ -1,33 +1,29 @@
 -- What a book keeps of a hold, after each entry.
-use Rattle.std.proofs.Common.{◌≡◌, ◌≤◌, ◌<◌, ◌+◌, arith, ℕ, suc, drop, get_or, Bool, true, false, List, [], ◌∷◌, ◌++◌, length, map, refl, ap, ap₂, sym, subst, ◌∙◌, inl, inr, Option, None, Some}
-use Rattle.std.specs.Prelude.{filter, slice_get}
-use Rattle.std.specs.List.{list_any, remove}
+use Rattle.std.proofs.Common.{◌≡◌, ◌≤◌, ◌<◌, ◌+◌, arith, ℕ, suc, drop, get_or, Bool, true, false, List, [], ◌∷◌, ◌++◌, length, refl, ap, ap₂, sym, subst, ◌∙◌, inl, Option, None, Some}
+use Rattle.std.specs.List.{remove}
 use Rattle.std.proofs.Math.Seq.{drop-cons}
 use Rattle.std.proofs.lemmas.List.{map-append}
-use Rattle.std.proofs.lemmas.Option.{same_Some}
 use Rattle.step_names.specs.declared.step.StepName.{StepName}
-use Rattle.trace_theory.specs.Traces.{In, IsRun, consequences, without}
+use Rattle.trace_theory.specs.Traces.{In, without}
 use Rattle.trace_theory.proofs.Least.{Once}
-use Rattle.trace_theory.proofs.Lists.{by_bool, In-front, Before-across, any_one, none_any}
-use Rattle.saved_steps.specs.Steps.{Step, moved, name_of}
+use Rattle.trace_theory.proofs.Lists.{Before-across, any_one, none_any}
+use Rattle.saved_steps.specs.Steps.{Step, name_of}
 use Rattle.saved_steps.specs.World.{Setting, World, is_same_step}
 use Rattle.saved_steps.specs.declared.fact.Fact.{Fact}
 use Rattle.saved_steps.specs.declared.record.Saved.TheVariants.{Started}
 use Rattle.saved_steps.specs.declared.record.StepRecord.{StepRecord}
 use Rattle.depends.specs.Instance.{steps}
-use Rattle.depends.specs.Laws.{IsFrom, facts_of}
+use Rattle.depends.specs.Laws.{facts_of}
 use Rattle.depends.proofs.Named.{steps_have_names}
 use Rattle.depends.proofs.Searching.{facts}
 use Rattle.step_history.specs.History.{TakenStep}
 use Rattle.step_history.proofs.Planned.{Undoes}
 use Rattle.step_index.specs.Held.{Held, AreLeft, count_left}
-use Rattle.book_log.specs.Legal.{IsAccepted, IsLegal}
-use Rattle.book_log.specs.Log.{Log, appended, base_of, remainder, remaining, step_on_hold, while_in, left_by, left_of, past_of, setting_of, world_of, consequences_of, after_entry}
+use Rattle.book_log.specs.Legal.{IsLegal}
+use Rattle.book_log.specs.Log.{Log, appended, base_of, remainder, step_on_hold, while_in, left_of, past_of, consequences_of, after_entry}
 use Rattle.book_log.specs.declared.entry.Entry.{Entry}
-use Rattle.book_log.specs.declared.entry.Entry.TheVariants.{Define, Start, Step as Stepped, Undo, Rollback, Settle, Hold as HoldEntry}
 use Rattle.book_log.proofs.HoldSaid.{held_next, nothing_left}
-use Rattle.book_log.proofs.Holding.{left_is_after, holds_stand, hold_remains, while_said}
-use Rattle.book_log.proofs.LegalRuns.{accepted_is_legal, legal_stands}
+use Rattle.book_log.proofs.Holding.{holds_stand, while_said}
 use Rattle.book_log.proofs.Standing.{StandsAt, from_start, is_run, past_there, step_itself}
 use Rattle.rollback_book.specs.Holding.{AddsUnheld, full_unheld, AreWithin, CanTakeOut, IsHoldFor, IsHoldOf, KeepsHold, TakesOut, marks_by, removed_each}
 use Rattle.rollback_book.specs.declared.hold.Hold.{Hold}

@@ -25,4 +25,5 @@ pub mod Started
 pub mod Retaken
 pub mod Remaining
 pub mod Commuted
+pub mod Takeback
 pub use Rattle.book_events.proofs.Cursors

@@ -1,5 +1,5 @@
 -- What is left while an order is looked at.
-use Rattle.std.proofs.Common.{◌≡◌, ◌≤◌, ◌<◌, arith, ℕ, ◌+◌, ◌-◌, Bool, cond, List, [], ◌∷◌, ◌++◌, length, map, suc, take, refl, ap, sym, ◌∙◌, Option, None, Some, Ok, Err}
+use Rattle.std.proofs.Common.{◌≡◌, ◌≤◌, ◌<◌, arith, ℕ, ◌+◌, ◌-◌, Bool, cond, List, [], ◌∷◌, ◌++◌, length, suc, take, ap, sym, ◌∙◌, None, Some, Ok, Err}
 use Rattle.std.specs.Prelude.{slice_get, position, option_map}
 use Rattle.std.specs.List.{position_from, remove}
 use Rattle.std.proofs.lemmas.Iterator.Adapters.{position_from-zero}

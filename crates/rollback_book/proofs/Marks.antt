@@ -1,12 +1,12 @@
 -- Marks of steps by their places: what becomes of them where steps are added and taken out.
-use Rattle.std.proofs.Common.{◌≡◌, ◌≤◌, ◌<◌, ◌+◌, ◌-◌, ◌==◌, arith, ℕ, zero, suc, Bool, true, false, cond, List, [], ◌∷◌, ◌++◌, length, map, refl, ap, ap₂, sym, subst, ◌∙◌, inl, inr, Option, None, Some}
+use Rattle.std.proofs.Common.{◌≡◌, ◌≤◌, ◌<◌, ◌-◌, arith, ℕ, zero, suc, Bool, true, false, cond, List, [], ◌∷◌, ◌++◌, length, map, refl, ap, ap₂, sym, subst, ◌∙◌, inl, inr, Option, None, Some}
 use Rattle.std.specs.Prelude.{not, filter, slice_get}
 use Rattle.std.specs.List.{list_any, remove}
 use Rattle.std.proofs.lemmas.List.{map-append}
 use Rattle.std.proofs.lemmas.Option.{same_Some, slice_get_within}
-use Rattle.trace_theory.specs.Traces.{In, Before, is_among, without, HasNames}
-use Rattle.trace_theory.proofs.Least.{Once, Once-filter, without_one, one_step}
-use Rattle.trace_theory.proofs.Lists.{by_bool, In-filter, any_one, one_any, none_any}
+use Rattle.trace_theory.specs.Traces.{In, is_among, without, HasNames}
+use Rattle.trace_theory.proofs.Least.{Once, Once-filter, without_one}
+use Rattle.trace_theory.proofs.Lists.{by_bool, In-filter, any_one, one_any}
 use Rattle.saved_steps.specs.Steps.{name_of}
 use Rattle.saved_steps.specs.World.{Setting, World, is_same_step}
 use Rattle.saved_steps.specs.declared.fact.Fact.{Fact}

@@ -1,6 +1,6 @@
 -- Which threads of a book have a move, and what their next step does.
 use Rattle.std.proofs.Common.{◌≡◌, ℕ, ◌≤◌, ◌<◌, ◌+◌, arith, length, ◌==◌, eq-eqb, Bool, true, false, cond, List, refl, ap, ap₂, sym, subst, ◌∙◌, Option, None, Some, Result, Ok, Err, inl, inr}
-use Rattle.std.specs.Prelude.{◌&&◌, ◌⊎◌, IsSome, not, is_some, option_and_then, ◌^◌}
+use Rattle.std.specs.Prelude.{◌&&◌, IsSome, not, is_some, option_and_then, ◌^◌}
 use Rattle.std.proofs.lemmas.Option.{same_Some}
 use Rattle.step_history.specs.Frame.{Frame}
 use Rattle.step_history.specs.Phase.TheVariants.{Ready}
@@ -217,7 +217,7 @@ pub step_ready : (before after : BookView) (t : Thread) (name : StepName) (next 
     → HasLogRoom after → r.entry ≡ Stepped name (fact_made m).kind → r.change ≡ made.Step m → CanEnter after r
 step_ready before after t name next m r same is step may room entry change =
     let d : is.effect ≡ step.effect = same_Some is.effect step.effect (sym is.same ∙ step.is) in
-    let whole : CanEnter after (record { entry = Stepped name (fact_made m).kind; answer = r.answer; change = made.Step m }) = record {
+    let whole : CanEnter after (record { entry = Stepped name (fact_made m).kind; change = made.Step m }) = record {
       is_accepted = ap₂ (λ (x : Log) (u : Thread). step_answer x u) same is.thread ∙ is.answer ∙ enters before.log is.effect name (fact_made m) (made_fact before after t name next m is step) is.named may;
       fits = record {
         effect = step.effect;
@@ -229,7 +229,7 @@ step_ready before after t name next m r same is step may room entry change =
       };
       room = room;
     } in
-    subst (λ (x : Made). CanEnter after x) (ap₂ (λ (e : Entry) (c : MadeChange). let x : Made = record { entry = e; answer = r.answer; change = c } in x) (sym entry) (sym change)) whole
+    subst (λ (x : Made). CanEnter after x) (ap₂ (λ (e : Entry) (c : MadeChange). let x : Made = record { entry = e; change = c } in x) (sym entry) (sym change)) whole
 
 -- and it is answered so
 pub step_told : (log : Log) (before after : BookView) (t : Thread) (name : StepName) (next : Next) (m : MadeStep) → before.log ≡ log → IsNextOf before t name next → IsMadeIn before after name next m → MayEnter before.log (fact_made m)

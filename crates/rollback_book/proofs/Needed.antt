@@ -5,11 +5,9 @@ use Rattle.std.specs.List.{find}
 use Rattle.std.proofs.lemmas.Option.{same_Some, slice_get-map, slice_get_within}
 use Rattle.step_names.specs.declared.step.StepName.{StepName}
 use Rattle.trace_theory.proofs.Lists.{by_bool}
-use Rattle.saved_steps.specs.Steps.{moved}
 use Rattle.saved_steps.specs.declared.fact.Fact.{Fact}
 use Rattle.saved_steps.specs.declared.record.StepRecord.{StepRecord}
 use Rattle.depends.specs.Dependence.{depends_directly}
-use Rattle.depends.specs.Instance.{steps}
 use Rattle.depends.specs.Laws.{facts_of}
 use Rattle.depends.proofs.Named.{steps_have_names}
 use Rattle.depends.proofs.Searching.{facts}

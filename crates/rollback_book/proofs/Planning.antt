@@ -18,6 +18,7 @@ use Rattle.book_log.specs.Answers.{plan_answer, names_of_facts}
 use Rattle.book_log.specs.Log.{Log, past_of, setting_of}
 use Rattle.book_log.specs.declared.entry.Entry.{Entry}
 use Rattle.rollback_book.specs.Book.{BookView, BookInvariant, IsStepAt}
+use Rattle.rollback_book.specs.Making.{ArePlacesOf}
 use Rattle.book_events.specs.Planned.{IsPlanned, WasPlanned}
 use Rattle.book_events.specs.declared.room.PlanRoom.{PlanRoom}
 use Rattle.rollback_book.proofs.Commuted.{plan_allowed}
@@ -115,12 +116,29 @@ fact_named : (o : Option Fact) (name : StepName) → option_map (λ (f : Fact). 
 fact_named None name h = cc
 fact_named (Some f) name h = (f, refl, same_Some f.name name h)
 
-module _ (b : BookView) (tied : BookInvariant b) (r : PlanRoom) (p : IsPlanned b.log r) where
-  pub planned_step : Stood b r.step p.at
-  planned_step = let f = fact_named (slice_get (facts_of (past_of b.log)) p.at) r.step p.there in stood_by b tied r.step p.at f.0 f.1 f.2
+-- the places of a room are those of its names
+pub places_of : (log : Log) (r : PlanRoom) → IsPlanned log r → ArePlacesOf log r.step r.undone r.places
+places_of log r p = record { names = p.names ∙ ap (λ (ns : List StepName). Ok ns) (sym p.kept); at = p.at; there = p.there; are = p.places }
 
-  pub plan_of : IsPlanOf b.history r.places
-  plan_of = (p.at, planned_step.within, p.places ∙ ap (λ (fs : List Fact). plan fs p.at) (sym (facts_are b tied)))
+module _ (b : BookView) (tied : BookInvariant b) (name : StepName) (undone : List StepName) (places : List ℕ) (p : ArePlacesOf b.log name undone places) where
+  pub planned_step : Stood b name p.at
+  planned_step = let f = fact_named (slice_get (facts_of (past_of b.log)) p.at) name p.there in stood_by b tied name p.at f.0 f.1 f.2
+
+  pub plan_of : IsPlanOf b.history places
+  plan_of = (p.at, planned_step.within, p.are ∙ ap (λ (fs : List Fact). plan fs p.at) (sym (facts_are b tied)))
+
+-- a rollback that is planned at a place is made
+pub made_rollback : (b : BookView) (tied : BookInvariant b) (name : StepName) (at : ℕ) → IsStepAt b name at → (places : List ℕ) (undone : List StepName) → places ≡ plan (facts (history_records b.history)) at
+    → map Some undone ≡ map (name_at (history_records b.history)) places → ArePlacesOf b.log name undone places
+made_rollback b tied name at is_at places undone planned named =
+    let t = stood b tied name at is_at in
+    let told : slice_get (facts_of (past_of b.log)) at ≡ Some t.step.fact = slice_get-map (λ (x : TakenStep). x.fact) (past_of b.log) at ∙ ap (option_map (λ (x : TakenStep). x.fact)) t.there in
+    record {
+      names = names_planned b tied name at is_at places undone planned named;
+      at = at;
+      there = ap (option_map (λ (f : Fact). f.name)) told ∙ ap Some t.fact;
+      are = planned ∙ ap (λ (fs : List Fact). plan fs at) (facts_are b tied);
+    }
 
 -- ---- names that are copied one by one
 

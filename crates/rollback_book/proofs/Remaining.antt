@@ -1,5 +1,5 @@
 -- Steps of which it is looked up whether they remain.
-use Rattle.std.proofs.Common.{◌≡◌, ◌<◌, ◌≤◌, ◌+◌, arith, ℕ, Bool, true, false, List, [], ◌∷◌, drop, get_or, length, zero, suc, refl, ap, sym, ◌∙◌, Option, None, Some, Err}
+use Rattle.std.proofs.Common.{◌≡◌, ◌<◌, ◌≤◌, ◌+◌, arith, ℕ, true, false, List, [], ◌∷◌, drop, get_or, length, zero, suc, refl, ap, sym, ◌∙◌, Option, None, Some, Err}
 use Rattle.std.specs.Prelude.{is_some, option_map, option_and_then, position}
 use Rattle.std.proofs.lemmas.List.{drop_all}
 use Rattle.step_names.specs.declared.step.StepName.{StepName}

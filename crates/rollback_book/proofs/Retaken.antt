@@ -1,5 +1,5 @@
 -- What a book tells of a step that is taken in it again.
-use Rattle.std.proofs.Common.{◌≡◌, ◌≤◌, ◌+◌, ◌-◌, arith, ℕ, eq-eqb, Bool, true, false, cond, List, [], ◌∷◌, refl, ap, sym, ◌∙◌, inl, inr, Option, None, Some, Result, Ok, Err}
+use Rattle.std.proofs.Common.{◌≡◌, ◌≤◌, ◌+◌, ◌-◌, arith, ℕ, eq-eqb, true, false, List, [], ◌∷◌, refl, ap, sym, ◌∙◌, inl, inr, Option, None, Some, Ok}
 use Rattle.std.specs.Prelude.{position, is_some}
 use Rattle.std.proofs.lemmas.Bool.{eqb-true}
 use Rattle.std.proofs.lemmas.Option.{same_Some}
@@ -7,29 +7,22 @@ use Rattle.json_tree.specs.Data.{depth}
 use Rattle.json_tree.specs.View.{data_of}
 use Rattle.json_tree.specs.declared.tree.Json.{Json}
 use Rattle.step_history.specs.Frame.{Frame}
-use Rattle.branch_tree.specs.Ready.{readiness_at}
-use Rattle.branch_tree.specs.declared.readiness.Readiness.{Readiness}
 use Rattle.step_names.specs.Thread.{Thread, execution}
 use Rattle.step_names.specs.declared.step.StepName.{StepName}
 use Rattle.trace_theory.specs.Traces.{In, names_of}
 use Rattle.trace_theory.proofs.Lists.{by_bool}
-use Rattle.trace_theory.proofs.Runs.{and_then_some}
 use Rattle.depends.specs.Instance.{steps}
 use Rattle.depends.specs.Laws.{facts_of}
-use Rattle.depends.proofs.Turned.{frame_move}
-use Rattle.saved_steps.specs.Effects.{Effect, frame_effect, move_effect, next_step}
-use Rattle.saved_steps.specs.Held.{frames_of, paths_of, world_view}
-use Rattle.saved_steps.specs.Steps.{Step, started, moved, name_of, start_name}
+use Rattle.saved_steps.specs.Held.{frames_of, world_view}
+use Rattle.saved_steps.specs.Steps.{Step, started, moved, name_of}
 use Rattle.saved_steps.specs.World.{Setting, World, is_same_step}
 use Rattle.saved_steps.specs.declared.fact.Fact.{Fact}
 use Rattle.saved_steps.specs.declared.record.StepRecord.{StepRecord}
 use Rattle.step_history.specs.History.{TakenStep, history_records, history_world}
-use Rattle.book_log.specs.Answers.{Gives, from_step, moved_answer, start_answer, step_answer, step_named, thread_answer, is_full_for_step, needed_left, unless_needed}
+use Rattle.book_log.specs.Answers.{from_step, step_answer, step_named}
 use Rattle.book_log.specs.Legal.{IsLegal}
-use Rattle.book_log.specs.Log.{Log, machine_of, past_of, remaining, setting_of, world_of}
+use Rattle.book_log.specs.Log.{Log, past_of, remaining, setting_of, world_of}
 use Rattle.book_log.specs.declared.moved.Moved.{Moved}
-use Rattle.book_log.specs.declared.refusal.Refusal.{Refusal}
-use Rattle.book_log.specs.declared.refusal.Refusal.TheVariants.{NoMachine, ExecTaken, Full}
 use Rattle.book_log.proofs.Counts.{legal_counts}
 use Rattle.book_log.proofs.Standing.{fact_named, names_there}
 use Rattle.book_log.proofs.Reruns.{named_is}

@@ -30,7 +30,6 @@ use Rattle.book_log.proofs.Standing.{base_settled, settled_next, stands_settled,
 use Rattle.rollback_book.specs.Book.{BookView, BookInvariant}
 use Rattle.rollback_book.specs.Making.{CanEnter, CanEnterChange, HasLogRoom}
 use Rattle.book_events.specs.Planned.{OrMemory}
-use Rattle.rollback_book.specs.declared.making.Entered.TheVariants as told
 use Rattle.rollback_book.specs.declared.making.MadeChange.TheVariants as made
 use Rattle.rollback_book.specs.Settling.{absent_in}
 use Rattle.rollback_book.specs.Holding.{IsHoldOf}
@@ -129,7 +128,7 @@ settle_held log name h = rw h refl
 
 -- a settlement for which everything is made
 pub settle_ready : (before after : BookView) → after.log ≡ before.log → step_on_hold before.log ≡ None → is_full_for_define before.log ≡ false → HasRoomFor after.settled (length (history_records after.history)) → HasLogRoom after
-    → CanEnter after (record { entry = Settle; answer = told.Settled; change = made.Settle })
+    → CanEnter after (record { entry = Settle; change = made.Settle })
 settle_ready before after same unheld free names room = record { is_accepted = ap settle_answer same ∙ room_settles before.log unheld free; fits = names; room = room }
 
 -- an answer that is given

@@ -15,12 +15,12 @@ use Rattle.step_history.proofs.Movable.{frames_stand}
 use Rattle.step_history.proofs.Worked.{is_over, work_move}
 use Rattle.step_names.specs.Thread.{Thread}
 use Rattle.step_names.specs.declared.step.StepName.{StepName}
-use Rattle.saved_steps.specs.Effects.{frame_effect, next_step}
+use Rattle.saved_steps.specs.Effects.{next_step}
 use Rattle.saved_steps.specs.Held.{frames_of, paths_of}
 use Rattle.saved_steps.specs.World.{World}
 use Rattle.saved_steps.specs.declared.next.Next.TheVariants.{Work}
 use Rattle.saved_steps.proofs.Moves.{work_is_effect}
-use Rattle.book_log.specs.Answers.{is_enabled, is_full_for_step, step_answer}
+use Rattle.book_log.specs.Answers.{is_full_for_step, step_answer}
 use Rattle.book_log.specs.Log.{Log, base_of, step_on_hold, machine_of, past_of, setting_of, world_of}
 use Rattle.book_log.specs.declared.refusal.Refusal.{Refusal}
 use Rattle.book_log.specs.declared.refusal.Refusal.TheVariants.{NoMachine, MachineTaken, BadMachine, ExecTaken, NoThread, NotReady, NoStep, HasDependents, Stale, Full, Memory, Settled, Held}

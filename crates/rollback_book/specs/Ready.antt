@@ -1,5 +1,5 @@
 -- What is worked out of a command before everything is made for it.
-use Rattle.std.specs.Prelude.{◌≡◌, ◌+◌, ◌<◌, ◌^◌, ◌&&◌, ℕ, List, true, false, IsSome, None, Some, Ok}
+use Rattle.std.specs.Prelude.{◌≡◌, ◌+◌, ◌<◌, ◌^◌, ℕ, List, true, false, IsSome, None, Some, Ok}
 use Rattle.json_tree.specs.declared.tree.Json.{Json}
 use Rattle.step_history.specs.Frame.{Frame}
 use Rattle.step_history.specs.Phase.TheVariants.{Ready}

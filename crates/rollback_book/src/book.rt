@@ -13,8 +13,8 @@ ghost use Rattle.rollback_book.specs.Book.{IsStepAt, IsMaximalPlace};
 ghost use Rattle.book_events.specs.Calls.{IsLogOf, MakesRoom, MakesUndoRoom, PlansRollback, RollsBack, Shows, Undoes};
 ghost use Rattle.book_events.specs.Planned.{IsPlanned, WasPlanned};
 
-use crate::hold::{Hold, take_out};
-use crate::lists::{absent_in, names_at, push_with_room};
+use crate::hold::Hold;
+use crate::lists::{absent_in, names_at};
 use crate::machines::Machines;
 use crate::room::FreeRoom;
 use attr_values::{Item, ItemFault};
@@ -188,9 +188,7 @@ impl Book {
             entries: _,
             looks: _,
         } = room;
-        self.history.rollback(&places);
-        take_out(&mut self.held, places.places());
-        push_with_room(&mut self.entries, Entry::Rollback { step, undone });
+        self.take_back_all(step, undone, places);
         Ok(names)
     }
 
@@ -285,15 +283,5 @@ impl Book {
             entries: self.entries.len(),
             looks: looks.count(),
         })
-    }
-
-    /// Takes back the step at a place.
-    pub(crate) fn take_back(&mut self, at: usize, step: StepName)
-        requires { IsMaximalPlace self.old step at }
-        ensures { self.new.log ≡ appended self.old.log (Entry.Undo step) }
-    {
-        self.history.undo(at);
-        take_out(&mut self.held, &[at]);
-        push_with_room(&mut self.entries, Entry::Undo { step });
     }
 }

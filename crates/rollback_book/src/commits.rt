@@ -2,12 +2,12 @@
 ghost use Rattle.std.specs.Prelude.{◌≡◌, true, false, IfOk, IfErr, IsSome, MatchResult};
 ghost use Rattle.book_events.specs.Commits.{AnswersCommit, Commits, IsFresh, IsSource, IsStaleness, is_phase_ready, tells_hold, turn_refused};
 ghost use Rattle.book_log.specs.Log.{step_on_hold};
-ghost use Rattle.rollback_book.specs.Making.{AnswersMove, CanEnter};
+ghost use Rattle.rollback_book.specs.Making.{CanEnter, IsStepAnswered, made_entry};
 
 use crate::book::Book;
 use crate::hold::is_full_unheld;
 use crate::machines::machine_in;
-use crate::making::{Entered, Made};
+use crate::making::Made;
 use crate::stepping::{is_enabled, next_name};
 use book_events::{CommitRefusal, Staleness};
 use book_log::{Moved, Refusal};
@@ -63,12 +63,10 @@ impl Book {
             return self.commit_beside_hold(alloc, thread, prepared);
         }
         match self.ready_commit(alloc, thread, prepared) {
-            Ok(made) => {
-                let Entered::Stepped(moved) = self.enter(made) else {
-                    unreachable!()
-                };
-                Ok(moved)
-            }
+            Ok(made) => match self.enter_moved(made) {
+                Ok(moved) => Ok(moved),
+                Err(refusal) => Err(CommitRefusal::Refused(refusal)),
+            },
             Err(refusal) => Err(CommitRefusal::Refused(refusal)),
         }
     }
@@ -89,10 +87,10 @@ impl Book {
         match self.ready_step(alloc, thread) {
             Ok(made) => {
                 drop(prepared);
-                let Entered::Stepped(moved) = self.enter(made) else {
-                    unreachable!()
-                };
-                Ok(moved)
+                match self.enter_moved(made) {
+                    Ok(moved) => Ok(moved),
+                    Err(refusal) => Err(CommitRefusal::Refused(refusal)),
+                }
             }
             Err(refusal) => Err(turn_refused(refusal, prepared)),
         }
@@ -142,9 +140,9 @@ impl Book {
         prepared: Prepared,
     ) -> Result<Made, Refusal>
         requires { IsFresh self.old.log thread.now prepared }
-        ensures answer { AnswersMove self.old.log thread.now result }
+        ensures answer { IsStepAnswered self.old.log thread.now (made_entry result) }
         ensures ready { IfOk result (λ m. CanEnter self.new m) }
-        ensures step_on_hold { IfErr result (λ e. tells_hold e ≡ true → IsSome (step_on_hold self.old.log)) }
+        ensures held { IfErr result (λ e. tells_hold e ≡ true → IsSome (step_on_hold self.old.log)) }
         ensures log { self.new.log ≡ self.old.log }
     {
         if is_full_unheld(&self.held, self.entries.len(), self.history.len()) {

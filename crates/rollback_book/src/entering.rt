@@ -14,7 +14,7 @@ ghost use Rattle.book_log.specs.Legal.{IsAccepted};
 ghost use Rattle.book_log.specs.Log.{appended, machine_of, world_of};
 ghost use Rattle.rollback_book.specs.Book.{machine_place};
 ghost use Rattle.book_events.specs.Calls.{Starts};
-ghost use Rattle.rollback_book.specs.Making.{AnswersMade, AnswersStart, CanEnter, CanEnterChange, HasLogRoom, IsProperChange, EntersWith};
+ghost use Rattle.rollback_book.specs.Making.{CanEnter, CanEnterChange, HasLogRoom, IsCommandAnswered, IsDefineAnswered, IsProperChange, IsStartAnswered, made_entry};
 ghost use Rattle.book_events.specs.Planned.{OrMemory};
 ghost use Rattle.rollback_book.specs.Ready.{IsMadeIn, IsStartOf};
 ghost use Rattle.step_history.specs.History.{history_world};
@@ -24,7 +24,7 @@ use crate::checks::{is_full_for_define, is_full_for_step, read_machine};
 use crate::hold::{add_unheld, reserve_held};
 use crate::lists::{push_with_room, reserve_entries};
 use crate::machines::{fill_place, machine_in, make_place};
-use crate::making::{Change, Entered, Made, MadeChange, make_define, start_entry};
+use crate::making::{Change, Made, MadeChange, make_define, start_entry};
 use asl_machine::{Machine, SharedMachine};
 use book_log::{Entry, Refusal};
 use json_tree::{Json, Text};
@@ -47,7 +47,7 @@ impl Book {
         ensures err { OnErr result (self.new.log ≡ self.old.log) }
     {
         let made = self.ready_define(alloc, name, definition)?;
-        let _ = self.enter(made);
+        self.enter(made);
         Ok(())
     }
 
@@ -69,17 +69,23 @@ impl Book {
         ensures { Starts self.old.log self.new.log exec.now machine.now input result }
     {
         let made = self.ready_start(alloc, exec, machine, input)?;
-        let Entered::Started(name) = self.enter(made) else {
-            unreachable!()
+        let Ok(thread) = exec.copy() else {
+            drop(made);
+            return Err(Refusal::Memory);
         };
-        Ok(name)
+        self.enter(made);
+        Ok(StepName { thread, no: 0 })
     }
 
     /// Makes everything that a command needs, so that to enter it takes no memory and is not refused. The log is the same
     /// then.
+    ///
+    /// # Errors
+    ///
+    /// Those of the call of the same name: `define`, `start`, `step`, `undo_room` and `undo`, `plan_room`, `settle`, `hold`.
     pub fn ready_entry(&mut self, alloc: Global, change: Change<'_>) -> Result<Made, Refusal>
         requires { IsProperChange change }
-        ensures answer { AnswersMade self.old.log change.entry result }
+        ensures answer { IsCommandAnswered self.old.log change.entry (made_entry result) }
         ensures ready { IfOk result (λ m. CanEnter self.new m) }
         ensures log { self.new.log ≡ self.old.log }
     {
@@ -91,29 +97,27 @@ impl Book {
                 input,
             } => self.ready_start(alloc, exec, machine, input),
             Change::Step { thread } => self.ready_step(alloc, thread),
+            Change::Undo { step } => self.ready_undo(step),
+            Change::Rollback { step } => self.ready_rollback(alloc, step),
             Change::Settle => self.ready_settle(),
             Change::Hold { step } => self.ready_hold(alloc, step),
         }
     }
 
     /// Enters a command for which everything is made, where the book is as that left it. Takes no memory.
-    pub fn enter(&mut self, made: Made) -> Entered
+    pub fn enter(&mut self, made: Made)
         requires { CanEnter self.old made }
-        ensures answer { result ≡ made.answer }
-        ensures log { self.new.log ≡ appended self.old.log made.entry }
+        ensures { self.new.log ≡ appended self.old.log made.entry }
     {
-        let Made {
-            entry,
-            answer,
-            change,
-        } = made;
+        let Made { entry, change } = made;
         match change {
             MadeChange::Define { name, machine } => self.enter_define(entry, name, machine),
             MadeChange::Step(step) => self.enter_step(entry, step),
+            MadeChange::Undo(at) => self.enter_undo(entry, at),
+            MadeChange::Rollback(plan) => self.enter_rollback(entry, plan),
             MadeChange::Settle => self.enter_settle(entry),
             MadeChange::Hold(held) => self.enter_hold(entry, held),
         }
-        answer
     }
 
     fn enter_define(&mut self, entry: Entry, name: Text, machine: SharedMachine)
@@ -145,9 +149,7 @@ impl Book {
         name: &Text,
         definition: &Value,
     ) -> Result<Made, Refusal>
-        ensures answer { MatchResult result
-            (λ m. (machine : Definition) × Defines (view definition.now) machine × EntersWith m (Entry.Define name.now machine) Entered.Defined)
-            (IsDefineRefusal self.old.log name.now (view definition.now)) }
+        ensures answer { IsDefineAnswered self.old.log name.now (view definition.now) (made_entry result) }
         ensures ready { IfOk result (λ m. CanEnter self.new m) }
         ensures log { self.new.log ≡ self.old.log }
     {
@@ -173,7 +175,7 @@ impl Book {
     ) -> Result<Made, Refusal>
         requires free { machine_of self.old.log name.now ≡ None }
         requires whole { IsWellFormedThroughout machine }
-        ensures made { IfOk result (λ m. EntersWith m (Entry.Define name.now machine) Entered.Defined) }
+        ensures made { IfOk result (λ m. m.entry ≡ Entry.Define name.now machine) }
         ensures refused { IfErr result (λ e. ((e ≡ Refusal.Full) × IsTrue (is_full_for_define self.old.log)) ⊎ ((e ≡ Refusal.Memory) × (is_full_for_define self.old.log ≡ false))) }
         ensures ready { IfOk result (λ m. CanEnter self.new m) }
         ensures log { self.new.log ≡ self.old.log }
@@ -214,7 +216,7 @@ impl Book {
     ) -> Result<Made, Refusal>
         requires execution { exec.now.path ≡ [] }
         requires shallow { depth (data_of input) ≤ most_levels }
-        ensures answer { AnswersStart (start_answer self.old.log exec.now machine.now) (Entry.Start exec.now machine.now input) result }
+        ensures answer { IsStartAnswered self.old.log exec.now machine.now input (made_entry result) }
         ensures ready { IfOk result (λ m. CanEnter self.new m) }
         ensures log { self.new.log ≡ self.old.log }
     {
@@ -234,9 +236,9 @@ impl Book {
             drop(name);
             return Err(Refusal::Memory);
         };
+        drop(name);
         Ok(Made {
             entry,
-            answer: Entered::Started(name),
             change: MadeChange::Step(step),
         })
     }

@@ -7,7 +7,7 @@ ghost use Rattle.book_log.specs.Log.{appended, step_on_hold, left_of};
 ghost use Rattle.rollback_book.specs.Book.{IsStepAt};
 ghost use Rattle.book_events.specs.Calls.{Holds, IsLatestLeft};
 ghost use Rattle.rollback_book.specs.Holding.{IsHoldRefusal};
-ghost use Rattle.rollback_book.specs.Making.{AnswersHold, CanEnter, CanEnterChange, HasLogRoom, IsMadeHold, MakesHold};
+ghost use Rattle.rollback_book.specs.Making.{CanEnter, CanEnterChange, HasLogRoom, HoldsSoMany, IsEntryOfHold, IsHoldAnswered, IsMadeHold, MakesHold, made_entry};
 ghost use Rattle.rollback_book.specs.declared.making.MadeChange.TheVariants as made;
 ghost use Rattle.step_history.specs.History.{history_records};
 
@@ -15,7 +15,7 @@ use crate::book::Book;
 use crate::checks::{is_full_for_define, is_full_for_step};
 use crate::hold::Hold;
 use crate::lists::{push_with_room, reserve_entries};
-use crate::making::{Entered, Made, MadeChange};
+use crate::making::{Made, MadeChange};
 use book_log::{Entry, Refusal};
 use depends::Plan;
 use std::alloc::{AllocError, Global};
@@ -35,9 +35,8 @@ impl Book {
         ensures { Holds self.old.log self.new.log step.now result }
     {
         let made = self.ready_hold(alloc, step)?;
-        let Entered::Held(count) = self.enter(made) else {
-            unreachable!()
-        };
+        let count = held_count(made.entry());
+        self.enter(made);
         Ok(count)
     }
 
@@ -93,7 +92,7 @@ impl Book {
 
     /// Makes everything that a hold needs.
     pub(crate) fn ready_hold(&mut self, alloc: Global, step: &StepName) -> Result<Made, Refusal>
-        ensures answer { AnswersHold self.old.log step.now result }
+        ensures answer { IsHoldAnswered self.old.log step.now (made_entry result) }
         ensures ready { IfOk result (λ m. CanEnter self.new m) }
         ensures log { self.new.log ≡ self.old.log }
     {
@@ -138,6 +137,17 @@ impl Book {
     }
 }
 
+/// How many steps a hold holds, by its entry.
+fn held_count(entry: &Entry) -> usize
+    requires { IsEntryOfHold entry.now }
+    ensures { HoldsSoMany entry.now result }
+{
+    let Entry::Hold { step: _, count } = entry else {
+        unreachable!()
+    };
+    *count
+}
+
 /// The hold of a step with this plan.
 fn made_of_plan(
     alloc: Global,
@@ -157,7 +167,7 @@ fn made_of_plan(
 
 /// The command that a hold is, with what is left of it.
 fn hold_made(step: &StepName, count: usize, left: HeldSteps) -> Result<Made, AllocError>
-    ensures { IfOk result (λ m. m ≡ record { entry = Entry.Hold step.now count; answer = Entered.Held count; change = MadeChange.Hold (record { step = step.now; left = left }) }) }
+    ensures { IfOk result (λ m. m ≡ record { entry = Entry.Hold step.now count; change = MadeChange.Hold (record { step = step.now; left = left }) }) }
 {
     let Ok((told, step)) = two_copies(step) else {
         drop(left);
@@ -165,7 +175,6 @@ fn hold_made(step: &StepName, count: usize, left: HeldSteps) -> Result<Made, All
     };
     Ok(Made {
         entry: Entry::Hold { step: told, count },
-        answer: Entered::Held(count),
         change: MadeChange::Hold(Hold { step, left }),
     })
 }

@@ -17,12 +17,13 @@ mod room;
 mod settling;
 mod stepping;
 mod tickets;
+mod undoing;
 
 pub use book::Book;
 pub use book_events::{CommitRefusal, Cursor, Events, PlanRoom, Room, Staleness, Ticket};
 pub use book_log::{Begin, Entry, Moved, Refusal, StepNames};
 pub use branch_tree::Readiness;
-pub use making::{Change, Entered, Made};
+pub use making::{Change, Made};
 pub use room::FreeRoom;
 pub use saved_steps::{Access, Fact, Kind, Saved, StepRecord};
 pub use step_history::turns as turns;

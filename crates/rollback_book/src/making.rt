@@ -3,13 +3,14 @@ ghost use Rattle.std.specs.Prelude.{◌≡◌, IfOk};
 
 use crate::hold::Hold;
 use asl_machine::{Machine, SharedMachine};
-use book_log::{Entry, Moved};
+use book_log::Entry;
+use depends::Plan;
 use json_tree::{Json, Text};
 use serde_json::Value;
 use std::alloc::{AllocError, Global};
 use step_names::{StepName, ThreadName};
 
-/// A command that adds to a book.
+/// A command that adds an entry to a book.
 #[derive(Drop)]
 pub enum Change<'a> {
     Define {
@@ -24,27 +25,25 @@ pub enum Change<'a> {
     Step {
         thread: &'a ThreadName,
     },
+    Undo {
+        step: &'a StepName,
+    },
+    Rollback {
+        step: &'a StepName,
+    },
     Settle,
     Hold {
         step: &'a StepName,
     },
 }
 
-/// What the caller of a command is told.
-#[derive(Debug, Drop)]
-pub enum Entered {
-    Defined,
-    Started(StepName),
-    Stepped(Moved),
-    Settled,
-    Held(usize),
-}
-
-/// What a command puts into a book beside its entry.
+/// What a command does to a book beside its entry.
 #[derive(Drop)]
 pub enum MadeChange {
     Define { name: Text, machine: SharedMachine },
     Step(saved_steps::Made),
+    Undo(usize),
+    Rollback(Plan),
     Settle,
     Hold(Hold),
 }
@@ -53,22 +52,21 @@ pub enum MadeChange {
 #[derive(Drop)]
 pub struct Made {
     pub(crate) entry: Entry,
-    pub(crate) answer: Entered,
     pub(crate) change: MadeChange,
 }
 
 impl Made {
-    /// What the caller will be told.
-    pub fn answer(&self) -> &Entered
-        ensures { result.now ≡ self.now.answer }
+    /// The entry that the command will be, which holds its reply. Takes no memory.
+    pub fn entry(&self) -> &Entry
+        ensures { result.now ≡ self.now.entry }
     {
-        &self.answer
+        &self.entry
     }
 }
 
 /// Makes all that a definition needs.
 pub fn make_define(alloc: Global, name: &Text, machine: Machine) -> Result<Made, AllocError>
-    ensures { IfOk result (λ m. m ≡ record { entry = Entry.Define name.now machine; answer = Entered.Defined; change = MadeChange.Define name.now machine }) }
+    ensures { IfOk result (λ m. m ≡ record { entry = Entry.Define name.now machine; change = MadeChange.Define name.now machine }) }
 {
     let machine = SharedMachine::new(alloc, machine)?;
     let entry = Entry::Define {
@@ -78,7 +76,6 @@ pub fn make_define(alloc: Global, name: &Text, machine: Machine) -> Result<Made,
     let name = name.copy()?;
     Ok(Made {
         entry,
-        answer: Entered::Defined,
         change: MadeChange::Define { name, machine },
     })
 }

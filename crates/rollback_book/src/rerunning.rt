@@ -13,7 +13,7 @@ ghost use Rattle.rollback_book.specs.Rerunning.{MayDefine, Retakes, all_remain, 
 ghost use Rattle.step_history.specs.History.{history_world};
 
 use crate::book::Book;
-use crate::making::{Entered, Made, MadeChange};
+use crate::making::{Made, MadeChange};
 use asl_machine::SharedMachine;
 use book_log::{Begin, Entry, Refusal};
 use json_tree::{Json, Text};
@@ -162,7 +162,7 @@ impl Book {
             drop(made);
             return Err(AllocError);
         }
-        let _ = self.enter(made);
+        self.enter(made);
         Ok(())
     }
 
@@ -319,7 +319,7 @@ fn start_in<'a>(entry: &'a Entry, thread: &ThreadName) -> Option<(&'a Text, &'a 
 
 /// All that a definition by a machine of another book needs.
 fn share_define(name: &Text, machine: &SharedMachine) -> Result<Made, AllocError>
-    ensures { IfOk result (λ m. m ≡ record { entry = Entry.Define name.now machine.now; answer = Entered.Defined; change = MadeChange.Define name.now machine.now }) }
+    ensures { IfOk result (λ m. m ≡ record { entry = Entry.Define name.now machine.now; change = MadeChange.Define name.now machine.now }) }
 {
     let (told, shared) = named_machine(name, machine)?;
     let Ok((name, machine)) = named_machine(name, machine) else {
@@ -333,7 +333,6 @@ fn share_define(name: &Text, machine: &SharedMachine) -> Result<Made, AllocError
     };
     Ok(Made {
         entry,
-        answer: Entered::Defined,
         change: MadeChange::Define { name, machine },
     })
 }

@@ -6,13 +6,13 @@ ghost use Rattle.step_names.specs.declared.step.StepName.{StepName};
 ghost use Rattle.book_log.specs.Legal.{IsAccepted};
 ghost use Rattle.book_log.specs.Log.{appended};
 ghost use Rattle.book_events.specs.Calls.{Settles};
-ghost use Rattle.rollback_book.specs.Making.{AnswersSettle, CanEnter, CanEnterChange, HasLogRoom};
+ghost use Rattle.rollback_book.specs.Making.{IsSettleAnswered, made_entry, CanEnter, CanEnterChange, HasLogRoom};
 ghost use Rattle.step_history.specs.History.{history_records};
 
 use crate::book::Book;
 use crate::checks::is_full_for_define;
 use crate::lists::{push_with_room, reserve_entries};
-use crate::making::{Entered, Made, MadeChange};
+use crate::making::{Made, MadeChange};
 use book_log::{Entry, Refusal};
 use json_tree::{Json, Text};
 use std::alloc::{AllocError, Global};
@@ -29,13 +29,13 @@ impl Book {
         ensures { Settles self.old.log self.new.log result }
     {
         let made = self.ready_settle()?;
-        let _ = self.enter(made);
+        self.enter(made);
         Ok(())
     }
 
     /// Makes everything that a settlement needs.
     pub(crate) fn ready_settle(&mut self) -> Result<Made, Refusal>
-        ensures answer { AnswersSettle self.old.log result }
+        ensures answer { IsSettleAnswered self.old.log (made_entry result) }
         ensures ready { IfOk result (λ m. CanEnter self.new m) }
         ensures log { self.new.log ≡ self.old.log }
     {
@@ -50,7 +50,6 @@ impl Book {
         }
         Ok(Made {
             entry: Entry::Settle,
-            answer: Entered::Settled,
             change: MadeChange::Settle,
         })
     }

@@ -1,5 +1,5 @@
 // Steps of threads: what is next is worked out and made, and then it is entered.
-ghost use Rattle.std.specs.Prelude.{◌≡◌, ◌+◌, ◌<◌, ◌^◌, true, IfOk, IfErr, IsSome, MatchResult, Err};
+ghost use Rattle.std.specs.Prelude.{◌≡◌, ◌+◌, ◌<◌, ◌^◌, true, IfOk, IfErr, IsSome, MatchResult, Err, OnErr};
 ghost use Rattle.std.specs.BTreeSet.{contains};
 ghost use Rattle.std.specs.String.{string_bytes};
 ghost use Rattle.branch_tree.specs.First.{is_free_to_move};
@@ -8,17 +8,17 @@ ghost use Rattle.saved_steps.specs.Effects.{next_step};
 ghost use Rattle.saved_steps.specs.First.{NoneBeforeThread};
 ghost use Rattle.saved_steps.specs.Made.{fact_made};
 ghost use Rattle.book_log.specs.Answers.{step_answer};
-ghost use Rattle.book_log.specs.Log.{step_on_hold, world_of};
+ghost use Rattle.book_log.specs.Log.{appended, step_on_hold, world_of};
 ghost use Rattle.book_events.specs.Calls.{FindsFirst, Steps};
 ghost use Rattle.book_events.specs.Commits.{tells_hold};
-ghost use Rattle.rollback_book.specs.Making.{AnswersMove, CanEnter};
+ghost use Rattle.rollback_book.specs.Making.{CanEnter, IsEntryOfStep, IsStepAnswered, made_entry};
 ghost use Rattle.book_events.specs.Planned.{IsMoveRefusal};
 ghost use Rattle.rollback_book.specs.Ready.{HasRoomUnlessHeld, IsHeldBack, IsNextOf, IsReadyTo, MayEnter};
 
 use crate::book::Book;
 use crate::hold::{first_needed, is_full_unheld};
 use crate::machines::machine_in;
-use crate::making::{Entered, Made, MadeChange};
+use crate::making::{Made, MadeChange};
 use asl_machine::SharedMachine;
 use book_log::{Entry, Moved, Refusal};
 use branch_tree::Readiness;
@@ -51,21 +51,28 @@ pub(crate) fn next_name(thread: &ThreadName, frame: &Frame) -> Result<StepName, 
 }
 
 /// The command that a step is, with everything that is made for it.
-fn step_made(name: StepName, step: saved_steps::Made) -> Result<Made, AllocError>
-    ensures entry { IfOk result (λ m. m.entry ≡ Entry.Step name (fact_made step).kind) }
-    ensures answer { IfOk result (λ m. m.answer ≡ Entered.Stepped (record { name = name; kind = (fact_made step).kind })) }
-    ensures change { IfOk result (λ m. m.change ≡ MadeChange.Step step) }
+fn step_made(name: StepName, step: saved_steps::Made) -> Made
+    ensures entry { result.entry ≡ Entry.Step name (fact_made step).kind }
+    ensures change { result.change ≡ MadeChange.Step step }
 {
     let kind = step.kind();
-    let Ok(told) = name.copy() else {
-        drop(name);
-        drop(step);
-        return Err(AllocError);
-    };
-    Ok(Made {
+    Made {
         entry: Entry::Step { name, kind },
-        answer: Entered::Stepped(Moved { name: told, kind }),
         change: MadeChange::Step(step),
+    }
+}
+
+/// The name and kind of a step, by its entry.
+fn moved_of(entry: &Entry) -> Result<Moved, AllocError>
+    requires { IsEntryOfStep entry.now }
+    ensures { IfOk result (λ m. entry.now ≡ Entry.Step m.name m.kind) }
+{
+    let Entry::Step { name, kind } = entry else {
+        unreachable!()
+    };
+    Ok(Moved {
+        name: name.copy()?,
+        kind: *kind,
     })
 }
 
@@ -80,15 +87,28 @@ impl Book {
         ensures { Steps self.old.log self.new.log thread.now result }
     {
         let made = self.ready_step(alloc, thread)?;
-        let Entered::Stepped(moved) = self.enter(made) else {
-            unreachable!()
+        self.enter_moved(made)
+    }
+
+    /// Enters a step for which everything is made, and answers its name and kind. Takes memory for a copy of the name.
+    pub(crate) fn enter_moved(&mut self, made: Made) -> Result<Moved, Refusal>
+        requires ready { CanEnter self.old made }
+        requires step { IsEntryOfStep made.entry }
+        ensures ok { IfOk result (λ m. (made.entry ≡ Entry.Step m.name m.kind) × (self.new.log ≡ appended self.old.log made.entry)) }
+        ensures memory { IfErr result (λ e. e ≡ Refusal.Memory) }
+        ensures err { OnErr result (self.new.log ≡ self.old.log) }
+    {
+        let Ok(moved) = moved_of(made.entry()) else {
+            drop(made);
+            return Err(Refusal::Memory);
         };
+        self.enter(made);
         Ok(moved)
     }
 
     /// Makes everything that the next step of a thread needs.
     pub(crate) fn ready_step(&mut self, alloc: Global, thread: &ThreadName) -> Result<Made, Refusal>
-        ensures answer { AnswersMove self.old.log thread.now result }
+        ensures answer { IsStepAnswered self.old.log thread.now (made_entry result) }
         ensures ready { IfOk result (λ m. CanEnter self.new m) }
         ensures log { self.new.log ≡ self.old.log }
     {
@@ -104,9 +124,9 @@ impl Book {
         next: Next,
     ) -> Result<Made, Refusal>
         requires { IsNextOf self.old name.thread name next }
-        ensures answer { AnswersMove self.old.log name.thread result }
+        ensures answer { IsStepAnswered self.old.log name.thread (made_entry result) }
         ensures ready { IfOk result (λ m. CanEnter self.new m) }
-        ensures step_on_hold { IfErr result (λ e. tells_hold e ≡ true → IsSome (step_on_hold self.old.log)) }
+        ensures held { IfErr result (λ e. tells_hold e ≡ true → IsSome (step_on_hold self.old.log)) }
         ensures log { self.new.log ≡ self.old.log }
     {
         let Ok(step) = self.make_step(alloc, &name, next) else {
@@ -118,10 +138,7 @@ impl Book {
             drop(step);
             return Err(refusal);
         }
-        match step_made(name, step) {
-            Ok(made) => Ok(made),
-            Err(AllocError) => Err(Refusal::Memory),
-        }
+        Ok(step_made(name, step))
     }
 
     /// Whether a step that is made may be entered: where something is held, it must not depend directly on what is left, and there
@@ -132,7 +149,7 @@ impl Book {
         ensures answer { MatchResult result
             (λ _. MayEnter self.now.log (fact_made step.now))
             (IsHeldBack self.now.log (fact_made step.now)) }
-        ensures step_on_hold { IfErr result (λ _. IsSome (step_on_hold self.now.log)) }
+        ensures held { IfErr result (λ _. IsSome (step_on_hold self.now.log)) }
     {
         let Some(hold) = &self.held else {
             return Ok(());

@@ -1,4 +1,4 @@
-use Rattle.std.proofs.Common.{drop, refl}
+use Rattle.std.proofs.Common.{drop}
 use Rattle.std.proofs.lemmas.List.{drop_all}
 use Rattle.rollback_book.proofs.Kept.{removing_begins, removing_within, removing_goes_on, removing_ends}
 use Rattle.rollback_book.proofs.hold.remove_each.Goals as goal

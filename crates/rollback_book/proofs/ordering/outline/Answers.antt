@@ -1,4 +1,4 @@
-use Rattle.std.proofs.Common.{◌≤◌, arith, length, map, ap, ◌∙◌, List}
+use Rattle.std.proofs.Common.{◌≤◌, arith, length, ap, ◌∙◌}
 use Rattle.std.proofs.lemmas.List.{take_all}
 use Rattle.depends.proofs.Searching.{facts}
 use Rattle.rollback_book.proofs.Looking.{one_fact}

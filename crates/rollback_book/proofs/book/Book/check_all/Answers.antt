@@ -1,4 +1,4 @@
-use Rattle.std.proofs.Common.{◌≡◌, ◌∙◌, None, Some, true, refl, ap, sym, subst}
+use Rattle.std.proofs.Common.{◌≡◌, ◌∙◌, None, true, refl, ap, sym, subst}
 use Rattle.std.specs.Prelude.{is_some, not}
 use Rattle.book_log.specs.Answers.{step_named}
 use Rattle.book_log.specs.Log.{remaining}

@@ -1,11 +1,10 @@
-use Rattle.std.proofs.Common.{◌≡◌, ◌∙◌, arith, length, refl, ap, sym, subst, true, false, Some, None}
+use Rattle.std.proofs.Common.{◌≡◌, ◌∙◌, arith, length, ap, sym, subst, Some, None}
 use Rattle.std.proofs.lemmas.Option.{slice_get_within}
 use Rattle.saved_steps.specs.Made.{fact_made}
-use Rattle.saved_steps.specs.declared.record.StepRecord.{StepRecord}
 use Rattle.book_log.specs.Answers.{needed_left}
 use Rattle.rollback_book.specs.Book.{BookView, book_view}
 use Rattle.rollback_book.specs.Holding.{IsHoldOf}
-use Rattle.rollback_book.specs.Ready.{HasRoomUnlessHeld, IsHeldBack, MayEnter}
+use Rattle.rollback_book.specs.Ready.{HasRoomUnlessHeld, MayEnter}
 use Rattle.rollback_book.proofs.Needed.{none_needed, one_needed, needed_there, unheld_may}
 use Rattle.rollback_book.proofs.book.Book.check_made.Goals as goal
 use Rattle.step_history.specs.History.{history_records}

@@ -1,8 +1,7 @@
-use Rattle.std.proofs.Common.{◌≡◌, ◌∙◌, ◌+◌, refl, ap, sym, subst, true, None, Err}
+use Rattle.std.proofs.Common.{◌≡◌, ◌∙◌, ◌+◌, refl, ap, sym, subst, Err}
 use Rattle.branch_tree.specs.First.{is_free_to_move}
 use Rattle.branch_tree.specs.declared.readiness.Readiness.{Readiness}
-use Rattle.book_log.specs.Answers.{is_full_for_step, step_answer}
-use Rattle.book_log.specs.Log.{step_on_hold}
+use Rattle.book_log.specs.Answers.{step_answer}
 use Rattle.book_log.specs.declared.refusal.Refusal.TheVariants.{NoThread, NotReady, Full}
 use Rattle.rollback_book.specs.Book.{BookView, book_view}
 use Rattle.rollback_book.specs.Ready.{HasRoomUnlessHeld, IsReadyTo}

@@ -1,4 +1,4 @@
-use Rattle.std.proofs.Common.{◌≡◌, ◌∙◌, ap, length, subst, sym, Some, None}
+use Rattle.std.proofs.Common.{◌≡◌, ◌∙◌, ap, length, subst, sym}
 use Rattle.book_log.specs.Log.{left_of}
 use Rattle.book_log.proofs.HoldSaid.{nothing_left}
 use Rattle.step_index.specs.Held.{count_left}

@@ -1,4 +1,4 @@
-use Rattle.std.proofs.Common.{ap, refl, sym, subst}
+use Rattle.std.proofs.Common.{refl, sym, subst}
 use Rattle.std.specs.Prelude.{vec_capacity}
 use Rattle.rollback_book.specs.Book.{BookView, IsStepAt, book_view}
 use Rattle.rollback_book.specs.Making.{MakesHold}

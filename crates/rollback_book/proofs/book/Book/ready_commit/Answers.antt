@@ -1,9 +1,7 @@
-use Rattle.std.proofs.Common.{◌≡◌, ◌∙◌, ◌+◌, refl, ap, inl, sym, subst, true, None, Err, Result}
+use Rattle.std.proofs.Common.{◌≡◌, ◌∙◌, ◌+◌, refl, ap, inl, sym, subst, Result}
 use Rattle.step_names.specs.declared.step.StepName.{StepName}
 use Rattle.saved_steps.specs.Effects.{next_step}
 use Rattle.saved_steps.specs.declared.next.Next.TheVariants.{Work}
-use Rattle.book_log.specs.Answers.{is_full_for_step, step_answer}
-use Rattle.book_log.specs.Log.{step_on_hold}
 use Rattle.book_log.specs.declared.moved.Moved.{Moved}
 use Rattle.book_log.specs.declared.refusal.Refusal.{Refusal}
 use Rattle.book_log.specs.declared.refusal.Refusal.TheVariants.{Full, Memory}

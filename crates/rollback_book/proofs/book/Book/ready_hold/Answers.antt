@@ -1,14 +1,13 @@
-use Rattle.std.proofs.Common.{◌≡◌, ◌∙◌, ℕ, inl, refl, ap, sym, subst, true, false, None, Some, Result, Err, length}
+use Rattle.std.proofs.Common.{◌≡◌, ◌∙◌, ℕ, inl, refl, sym, subst, None, Result, Err}
 use Rattle.std.specs.Prelude.{◌⊎◌}
-use Rattle.book_log.specs.Answers.{HoldLacks, absent, hold_answer, is_full_for_define}
-use Rattle.book_log.specs.Log.{consequences_of, step_on_hold}
+use Rattle.book_log.specs.Answers.{HoldLacks, absent, hold_answer}
+use Rattle.book_log.specs.Log.{step_on_hold}
 use Rattle.book_log.specs.declared.refusal.Refusal.{Refusal}
 use Rattle.book_log.specs.declared.refusal.Refusal.TheVariants.{Full, Memory}
 use Rattle.rollback_book.specs.Book.{BookView, book_view}
 use Rattle.rollback_book.specs.Holding.{IsHoldRefusal}
 use Rattle.book_events.specs.Planned.{OrMemory}
-use Rattle.rollback_book.proofs.Added.{on_ok}
-use Rattle.rollback_book.proofs.HoldAnswers.{hold_absent, hold_free, hold_full, hold_ready, hold_refusal, hold_told, free_answer}
+use Rattle.rollback_book.proofs.HoldAnswers.{hold_absent, hold_full, hold_ready, hold_refusal, hold_told, free_answer}
 use Rattle.rollback_book.proofs.Tied.{define_full_by}
 use Rattle.rollback_book.proofs.book.Book.ready_hold.Goals as goal
 use Rattle.step_history.specs.History.{history_records}

@@ -27,7 +27,7 @@ pub returns-clause-answer : goal.returns-clause-answer
 returns-clause-answer c =
     let free = (subst (λ (b : BookView). is_full_for_define b.log ≡ false) c.self.view_is
     (define_full_by (book_view c.self.inside.begin c.self.inside.machines c.self.inside.history c.self.inside.entries c.self.inside.settled c.self.inside.held) c.self.invariant c.len.result c.len-2.result c.is_full_for_define.result (c.len.ensures ∙ c.self.inside.entries.ok.0) c.len-2.ensures c.is_full_for_define.ensures ∙ c.if-is_full_for_define.false)) in
-    (room_settles c.args.self.now.log c.in_default.ensures free, (refl, refl))
+    (room_settles c.args.self.now.log c.in_default.ensures free, refl)
 
 pub returns-clause-ready : goal.returns-clause-ready
 returns-clause-ready c =

@@ -1,63 +1,38 @@
-use Rattle.std.proofs.Common.{◌≡◌, ◌∙◌, refl, ap, sym, subst, Ok, List, [], ◌∷◌, ◌++◌}
-use Rattle.std.specs.Prelude.{ℕ, vec_capacity}
+use Rattle.std.proofs.Common.{◌≡◌, ◌∙◌, refl, ap, sym, subst, List, length}
 use Rattle.step_names.specs.declared.step.StepName.{StepName}
-use Rattle.book_log.specs.Answers.{plan_answer}
-use Rattle.book_log.specs.Log.{appended, consequences_of}
-use Rattle.book_log.specs.declared.entry.Entry.{Entry}
+use Rattle.book_log.specs.Legal.{IsLegal}
+use Rattle.book_log.specs.Log.{Log, appended, consequences_of}
 use Rattle.book_log.specs.declared.entry.Entry.TheVariants.{Rollback}
-use Rattle.book_log.proofs.LegalRuns.{of_log}
 use Rattle.book_log.proofs.Orders.{rollback_is_exact}
 use Rattle.rollback_book.specs.Book.{BookView, book_view}
-use Rattle.book_events.specs.Calls.{RollsBack}
 use Rattle.book_events.specs.Rest.{IsRest}
-use Rattle.rollback_book.specs.Holding.{CanTakeOut, TakesOut}
+use Rattle.rollback_book.specs.Making.{ArePlacesOf}
 use Rattle.book_events.specs.Planned.{WasPlanned}
 use Rattle.rollback_book.proofs.Commuted.{rolled_rest}
-use Rattle.rollback_book.proofs.Planning.{still_planned, planned_step, plan_of}
-use Rattle.rollback_book.proofs.TakenBack.{planned_takes, tied_rolled}
+use Rattle.rollback_book.proofs.Planning.{places_of, still_planned}
 use Rattle.rollback_book.proofs.book.Book.rollback.Goals as goal
 
-pub rollback-requires-clause-plan : goal.rollback-requires-clause-plan
-rollback-requires-clause-plan c =
+pub take_back_all-requires : goal.take_back_all-requires
+take_back_all-requires c =
     let b = book_view c.self.inside.begin c.self.inside.machines c.self.inside.history c.self.inside.entries c.self.inside.settled c.self.inside.held in
     let was = subst (λ (b : BookView). WasPlanned b.log c.args.room) (sym c.self.view_is) c.requires in
     let p = still_planned b.log c.args.room was (sym (c.len.ensures ∙ c.self.inside.entries.ok.0) ∙ c.if-len-room.false) in
-    plan_of b c.self.invariant c.args.room p
-
-pub invariant_of-self : goal.invariant_of-self
-invariant_of-self c =
-    let b = book_view c.self.inside.begin c.self.inside.machines c.self.inside.history c.self.inside.entries c.self.inside.settled c.self.inside.held in
-    let was = subst (λ (b : BookView). WasPlanned b.log c.args.room) (sym c.self.view_is) c.requires in
-    let p = still_planned b.log c.args.room was (sym (c.len.ensures ∙ c.self.inside.entries.ok.0) ∙ c.if-len-room.false) in
-    let answer : plan_answer b.log c.args.room.step ≡ Ok c.args.room.undone = p.names ∙ ap (λ (ns : List StepName). Ok ns) (sym p.kept) in
-    rw c.push_with_room.ensures.items
-    (tied_rolled b c.self.invariant c.args.room.step c.rollback.new.self c.take_out.new.held (vec_capacity c.push_with_room.new.list) c.push_with_room.ensures.kept p.at c.args.room.undone c.args.room.places
-    (planned_step b c.self.invariant c.args.room p) answer p.places (subst (λ (l : List ℕ). TakesOut b.held l c.take_out.new.held) c.places-2.ensures c.take_out.ensures) c.rollback.ensures)
-
-pub take_out-requires : goal.take_out-requires
-take_out-requires c =
-    let b = book_view c.self.inside.begin c.self.inside.machines c.self.inside.history c.self.inside.entries c.self.inside.settled c.self.inside.held in
-    let was = subst (λ (b : BookView). WasPlanned b.log c.args.room) (sym c.self.view_is) c.requires in
-    let p = still_planned b.log c.args.room was (sym (c.len.ensures ∙ c.self.inside.entries.ok.0) ∙ c.if-len-room.false) in
-    subst (λ (l : List ℕ). CanTakeOut b.held l) (sym c.places-2.ensures) (planned_takes b c.self.invariant c.args.room.step p.at c.args.room.places (planned_step b c.self.invariant c.args.room p) p.places)
+    subst (λ (b : BookView). ArePlacesOf b.log c.args.room.step c.args.room.undone c.args.room.places) c.self.view_is (places_of b.log c.args.room p)
 
 pub returns : goal.returns
 returns c =
-    let b = book_view c.self.inside.begin c.self.inside.machines c.self.inside.history c.self.inside.entries c.self.inside.settled c.self.inside.held in
-    let was = subst (λ (b : BookView). WasPlanned b.log c.args.room) (sym c.self.view_is) c.requires in
-    let p = still_planned b.log c.args.room was (sym (c.len.ensures ∙ c.self.inside.entries.ok.0) ∙ c.if-len-room.false) in
+    let log = c.args.self.now.log in
     let step = c.args.room.step in
-    let now = of_log c.self.inside.begin c.push_with_room.new.list.items in
-    let kept : plan_answer b.log step ≡ Ok c.args.room.undone = p.names ∙ ap (λ (ns : List StepName). Ok ns) (sym p.kept) in
-    let rest = rolled_rest b.log c.self.invariant.legal step c.args.room.undone kept in
-    let after : now ≡ appended b.log (Rollback step c.args.room.names) =
-    ap (of_log c.self.inside.begin) (c.push_with_room.ensures.items ∙ ap (λ (ns : List StepName). c.self.inside.entries.items ++ Rollback step ns ∷ []) p.kept) in
-    subst (λ (v : BookView). RollsBack v.log now c.args.room (Ok c.args.room.names)) c.self.view_is
-    (record {
-      ok = (refl, p.names, after);
-      exact = rollback_is_exact b.log step c.args.room.names c.self.invariant.legal p.names;
-      rest = subst (λ (entries : List Entry). IsRest b.log (consequences_of b.log step) (of_log c.self.inside.begin entries)) (sym c.push_with_room.ensures.items) rest;
-      fresh = sym (sym (c.len.ensures ∙ c.self.inside.entries.ok.0) ∙ c.if-len-room.false);
+    let fresh = subst (λ (b : BookView). length b.log.entries ≡ c.args.room.entries) c.self.view_is (sym (c.len.ensures ∙ c.self.inside.entries.ok.0) ∙ c.if-len-room.false) in
+    let legal = subst (λ (b : BookView). IsLegal b.log) c.self.view_is c.self.invariant.legal in
+    let p = still_planned log c.args.room c.requires fresh in
+    let kept = (places_of log c.args.room p).names in
+    let rest = rolled_rest log legal step c.args.room.undone kept in
+    record {
+      ok = (refl, p.names, c.take_back_all.ensures ∙ ap (λ (ns : List StepName). appended log (Rollback step ns)) p.kept);
+      exact = rollback_is_exact log step c.args.room.names legal p.names;
+      rest = subst (λ (after : Log). IsRest log (consequences_of log step) after) (sym c.take_back_all.ensures) rest;
+      fresh = sym fresh;
       stale = tt;
       err = tt;
-    })
+    }
