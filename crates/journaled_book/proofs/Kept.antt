@@ -1,6 +1,5 @@
 -- What stays true of a journal and its book.
 use Rattle.std.proofs.Common.{◌≡◌, inl, ℕ, List, [], ◌∷◌, ◌++◌, Option, None, Some, Result, Ok, Err, IsTrue, OnOk, OnErr, refl, sym, ap, subst, arith}
-use Rattle.std.specs.Prelude.{IfOk}
 use Rattle.sqlite.specs.Effect.{Database}
 use Rattle.sqlite.specs.State.{State, HasCleanDisk, Survives}
 use Rattle.sqlite.specs.Tree.{Trees}
@@ -64,11 +63,6 @@ module _ {T E : Type 0} (old new : State) (line : List ℕ) where
       → Appends old new line result → IsJournalOf new (Some after.log)
   changed_kept (Ok x) before after entry h says ok err a = entered_kept (Ok x) x before.log after.log entry refl h says ok a
   changed_kept (Err e) before after entry h says ok err a = subst (λ (b : BookView). IsJournalOf new (Some b.log)) (sym err) (refused_kept (Err e) e (Some before.log) refl h a)
-
-  pub answered_kept : (result : Result T E) (answer : T) (before after : BookView) (entry : Entry) → IsJournalOf old (Some before.log) → IsLineOf line entry
-      → IfOk result (λ x. (x ≡ answer) × (after.log ≡ appended before.log entry)) → OnErr result (after ≡ before) → Appends old new line result → IsJournalOf new (Some after.log)
-  answered_kept (Ok x) answer before after entry h says ok err a = entered_kept (Ok x) x before.log after.log entry refl h says ok.1 a
-  answered_kept (Err e) answer before after entry h says ok err a = subst (λ (b : BookView). IsJournalOf new (Some b.log)) (sym err) (refused_kept (Err e) e (Some before.log) refl h a)
 
   -- the same, with another answer
   pub replayed : {U : Type 0} → (result : Result T E) (x : T) (y : U) → result ≡ Ok x → Appends old new line result → Appends {T = U} {E = E} old new line (Ok y)

@@ -1,7 +1,6 @@
 pub mod Said
 pub mod Given
 pub mod Kept
-pub mod Entering
 pub use Rattle.rollback_book.proofs.Threads
 pub mod Unopened
 pub use Rattle.rollback_book.proofs.Cursors

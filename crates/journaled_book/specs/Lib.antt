@@ -9,6 +9,8 @@ pub use Rattle.asl_tree.specs.Definition
 pub use Rattle.rollback_book.specs.Readiness
 pub use Rattle.rollback_book.specs.Book
 pub use Rattle.rollback_book.specs.Making
+pub use Rattle.rollback_book.specs.declared.making.Change
+pub use Rattle.rollback_book.specs.declared.making.Made
 pub use Rattle.rollback_book.specs.First
 pub use Rattle.rollback_book.specs.FirstMove
 pub use Rattle.rollback_book.specs.Cursors

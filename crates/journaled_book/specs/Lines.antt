@@ -60,6 +60,8 @@ abbrev pub SaysChange : Change → List ℕ → Type 0
 SaysChange (change.Define name definition) line = SaysDefine name.now (view definition.now) line
 SaysChange (change.Start exec machine input) line = IsStartLine line exec.now machine.now input
 SaysChange (change.Step thread) line = command_of line ≡ Some (command_view.step thread.now)
+SaysChange (change.Undo step) line = command_of line ≡ Some (command_view.undo step.now)
+SaysChange (change.Rollback step) line = command_of line ≡ Some (command_view.rollback step.now)
 SaysChange change.Settle line = command_of line ≡ Some command_view.settle
 SaysChange (change.Hold step) line = command_of line ≡ Some (command_view.hold step.now)
 

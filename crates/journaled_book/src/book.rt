@@ -2,25 +2,22 @@ ghost use Rattle.std.specs.Prelude.{◌≡◌, ℕ, List, [], None, Some, IsOk, 
 ghost use Rattle.sqlite.specs.Held.{state};
 ghost use Rattle.sqlite.specs.State.{HasCleanDisk};
 ghost use Rattle.book_log.specs.Beginning.{begun_table};
-ghost use Rattle.book_journal.specs.Kept.{lines_in, IsAtRest};
-ghost use Rattle.rollback_book.specs.Calls.{MakesUndoRoom};
-ghost use Rattle.rollback_book.specs.Making.{AnswersMade, IsProperChange};
-ghost use Rattle.rollback_book.specs.Planned.{IsPlanned, WasPlanned};
-ghost use Rattle.journaled_book.specs.Changes.{AnswersRollback, AnswersUndo, Appends, IsRead, IsMadeReady, IsStoreFault, PlansJournaledRollback, RefusesBegin};
+ghost use Rattle.book_journal.specs.Kept.{lines_in};
+ghost use Rattle.rollback_book.specs.Making.{IsCommandAnswered, IsProperChange, made_entry};
+ghost use Rattle.journaled_book.specs.Changes.{Appends, IsRead, IsMadeReady, IsStoreFault, RefusesBegin};
 ghost use Rattle.journaled_book.specs.Journaled.{IsJournalOf, log_of, with_entry};
 ghost use Rattle.journaled_book.specs.Lines.{IsBeginLine, IsLineOf, SaysChange};
 ghost use Rattle.journaled_book.specs.Opening.{OpensTo, RefusesOpen};
 
 use crate::changing;
-use crate::fault::{BeginRefusal, EntryFault, OpenFault};
+use crate::fault::{BeginRefusal, OpenFault};
 use crate::loading::load;
 use book_journal::{Journal, JournalFault};
-use book_log::{Begin, Entry, Refusal, StepNames};
-use rollback_book::{Book, Change, Entered, Made, PlanRoom, Room};
+use book_log::{Begin, Refusal};
+use rollback_book::{Book, Change, Made};
 use sqlite::Alter;
 use std::alloc::Global;
 use std::marker::Model;
-use step_names::StepName;
 
 /// The book of one session, none before its table is given, and the journal of its accepted lines: line 0 is the table's, and line n
 /// that of the log's entry n.
@@ -117,15 +114,18 @@ impl<S: Alter> JournaledBook<S> {
 
     /// Makes everything that a command needs but its line in the journal, as `Book::ready_entry`. The log and the journal
     /// are the same then.
-    pub(crate) fn ready(&mut self, alloc: Global, change: Change<'_>) -> Result<Made, Refusal>
+    ///
+    /// # Errors
+    ///
+    /// As the book refuses the command.
+    pub fn prepare(&mut self, alloc: Global, change: Change<'_>) -> Result<Made, Refusal>
         requires open { IsSome self.old.book }
         requires proper { IsProperChange change }
-        ensures answer { IfSome self.old.book (λ b. AnswersMade b.log change.entry result) }
+        ensures answer { IfSome self.old.book (λ b. IsCommandAnswered b.log change.entry (made_entry result)) }
         ensures ready { IfOk result (λ made. IsMadeReady self.new.book made) }
         ensures line { IfOk result (λ made. (line : List ℕ) → SaysChange change.entry line → IsLineOf line made.entry) }
         ensures log { log_of self.new.book ≡ log_of self.old.book }
         ensures journal { self.new.journal ≡ self.old.journal }
-        ensures rest { IsAtRest (state S.Store self.new.journal) }
     {
         let Some(book) = &mut self.book else {
             unreachable!()
@@ -133,16 +133,16 @@ impl<S: Alter> JournaledBook<S> {
         book.ready_entry(alloc, change)
     }
 
-    /// Appends the line of a command for which everything is made, and then enters it, where the book is as that left it. The
+    /// Appends the line of a command for which everything is made, and then enters it, if the book is as that left it. The
     /// book takes no memory.
     ///
     /// # Errors
     ///
     /// As the journal refuses the line. Book and journal are as before then.
-    pub(crate) fn enter(&mut self, made: Made, line: &str) -> Result<Entered, JournalFault>
+    pub fn enter(&mut self, made: Made, line: &str) -> Result<(), JournalFault>
         requires ready { IsMadeReady self.old.book made }
         requires line { IsLineOf line.now made.entry }
-        ensures ok { IfOk result (λ answer. (answer ≡ made.answer) × (log_of self.new.book ≡ with_entry (log_of self.old.book) made.entry)) }
+        ensures ok { OnOk result (log_of self.new.book ≡ with_entry (log_of self.old.book) made.entry) }
         ensures refused { IfErr result IsStoreFault }
         ensures err { OnErr result (self.new.book ≡ self.old.book) }
         ensures journal { Appends (state S.Store self.old.journal) (state S.Store self.new.journal) line.now result }
@@ -151,69 +151,6 @@ impl<S: Alter> JournaledBook<S> {
             unreachable!()
         };
         changing::enter(book, &mut self.journal, made, line)
-    }
-
-    /// Takes a step back on which no remaining step depends directly, and answers its name. The book takes no memory.
-    ///
-    /// # Errors
-    ///
-    /// As the book refuses, before anything is appended; or as the journal refuses the line. Book and journal are as before then.
-    pub fn undo(&mut self, room: Room, line: &str) -> Result<StepName, EntryFault>
-        requires open { IsSome self.old.book }
-        requires line { IsLineOf line.now (Entry.Undo room.step) }
-        ensures answer { IfSome self.old.book (λ b. AnswersUndo b.log room.step result) }
-        ensures ok { OnOk result (log_of self.new.book ≡ with_entry (log_of self.old.book) (Entry.Undo room.step)) }
-        ensures err { OnErr result (self.new.book ≡ self.old.book) }
-        ensures journal { Appends (state S.Store self.old.journal) (state S.Store self.new.journal) line.now result }
-    {
-        let Some(book) = &mut self.book else {
-            unreachable!()
-        };
-        changing::undo(book, &mut self.journal, room, line)
-    }
-
-    /// Makes what the undoing of a step needs, as `Book::undo_room`.
-    pub fn undo_room(&self, alloc: Global, step: &StepName) -> Result<Room, Refusal>
-        requires { IsSome self.now.book }
-        ensures { IfSome self.now.book (λ b. MakesUndoRoom b.log step.now result) }
-    {
-        let Some(book) = &self.book else {
-            unreachable!()
-        };
-        book.undo_room(alloc, step)
-    }
-
-    /// Plans the rollback of a step, as `Book::plan_room`.
-    pub fn plan_room(&self, alloc: Global, step: &StepName) -> Result<PlanRoom, Refusal>
-        requires { IsSome self.now.book }
-        ensures { IfSome self.now.book (λ b. PlansJournaledRollback b.log step.now result) }
-    {
-        let Some(book) = &self.book else {
-            unreachable!()
-        };
-        book.plan_room(alloc, step)
-    }
-
-    /// Takes back a step and its consequences, and no other step, as they were planned, and answers their names, the latest first.
-    /// The book takes no memory.
-    ///
-    /// # Errors
-    ///
-    /// `Stale` where commands were accepted since the plan was made, before anything is appended; or as the journal refuses the
-    /// line. Book and journal are as before then.
-    pub fn rollback(&mut self, plan: PlanRoom, line: &str) -> Result<StepNames, EntryFault>
-        requires planned { IfSome self.old.book (λ b. WasPlanned b.log plan) }
-        requires open { IsSome self.old.book }
-        requires line { IsLineOf line.now (Entry.Rollback plan.step plan.names) }
-        ensures answer { IfSome self.old.book (λ b. AnswersRollback b.log plan.step plan.names plan.entries result) }
-        ensures ok { OnOk result (log_of self.new.book ≡ with_entry (log_of self.old.book) (Entry.Rollback plan.step plan.names)) }
-        ensures err { OnErr result (self.new.book ≡ self.old.book) }
-        ensures journal { Appends (state S.Store self.old.journal) (state S.Store self.new.journal) line.now result }
-    {
-        let Some(book) = &mut self.book else {
-            unreachable!()
-        };
-        changing::rollback(book, &mut self.journal, plan, line)
     }
 }
 

@@ -1,21 +1,18 @@
 // What is done to a book and its journal together.
-ghost use Rattle.std.specs.Prelude.{◌≡◌, ◌⊎◌, [], None, Some, IsOk, IfOk, IfErr, OnOk, OnErr};
+ghost use Rattle.std.specs.Prelude.{◌≡◌, [], IsOk, IfOk, IfErr, OnOk, OnErr};
 ghost use Rattle.sqlite.specs.Held.{state};
 ghost use Rattle.book_log.specs.Beginning.{begun_table};
 ghost use Rattle.book_log.specs.Log.{appended};
 ghost use Rattle.book_journal.specs.Kept.{IsAtRest};
 ghost use Rattle.rollback_book.specs.Making.{CanEnter};
-ghost use Rattle.rollback_book.specs.Planned.{WasPlanned};
-ghost use Rattle.journaled_book.specs.Changes.{AnswersRollback, AnswersUndo, Appends, IsStoreFault, RefusesBegin};
-ghost use Rattle.journaled_book.specs.Journaled.{log_of};
+ghost use Rattle.journaled_book.specs.Changes.{Appends, IsStoreFault, RefusesBegin};
 
-use crate::fault::{BeginRefusal, EntryFault};
+use crate::fault::BeginRefusal;
 use book_journal::{Journal, JournalFault};
-use book_log::{Begin, Entry, Refusal, StepNames};
-use rollback_book::{Book, Entered, Made, PlanRoom, Room};
+use book_log::Begin;
+use rollback_book::{Book, Made};
 use sqlite::Alter;
 use std::alloc::Global;
-use step_names::StepName;
 
 /// Opens a book and appends its line.
 pub(crate) fn begin<S: Alter>(
@@ -45,71 +42,23 @@ pub(crate) fn enter<S: Alter>(
     journal: &mut Journal<S>,
     made: Made,
     line: &str,
-) -> Result<Entered, JournalFault>
+) -> Result<(), JournalFault>
     requires { CanEnter book.old made }
-    ensures ok { IfOk result (λ answer. (answer ≡ made.answer) × (book.new.log ≡ appended book.old.log made.entry)) }
+    ensures ok { OnOk result (book.new.log ≡ appended book.old.log made.entry) }
     ensures refused { IfErr result IsStoreFault }
     ensures err { OnErr result (book.new ≡ book.old) }
     ensures journal { Appends (state S.Store journal.old) (state S.Store journal.new) line.now result }
 {
     match append(journal, line) {
-        Ok(()) => Ok(book.enter(made)),
+        Ok(()) => {
+            book.enter(made);
+            Ok(())
+        }
         Err(fault) => {
             drop(made);
             Err(fault)
         }
     }
-}
-
-pub(crate) fn undo<S: Alter>(
-    book: &mut Book,
-    journal: &mut Journal<S>,
-    room: Room,
-    line: &str,
-) -> Result<StepName, EntryFault>
-    requires { IsAtRest (state S.Store journal.old) }
-    ensures answer { AnswersUndo book.old.log room.step result }
-    ensures ok { OnOk result (book.new.log ≡ appended book.old.log (Entry.Undo room.step)) }
-    ensures err { OnErr result (book.new ≡ book.old) }
-    ensures journal { Appends (state S.Store journal.old) (state S.Store journal.new) line.now result }
-{
-    let free = match book.can_undo(room) {
-        Ok(free) => free,
-        Err(refusal) => return Err(EntryFault::Book(refusal)),
-    };
-    if let Err(fault) = append(journal, line) {
-        drop(free);
-        return Err(EntryFault::Journal(fault));
-    }
-    Ok(book.undo_found(free))
-}
-
-pub(crate) fn rollback<S: Alter>(
-    book: &mut Book,
-    journal: &mut Journal<S>,
-    plan: PlanRoom,
-    line: &str,
-) -> Result<StepNames, EntryFault>
-    requires rest { IsAtRest (state S.Store journal.old) }
-    requires planned { WasPlanned book.old.log plan }
-    ensures answer { AnswersRollback book.old.log plan.step plan.names plan.entries result }
-    ensures ok { OnOk result (book.new.log ≡ appended book.old.log (Entry.Rollback plan.step plan.names)) }
-    ensures err { OnErr result (book.new ≡ book.old) }
-    ensures journal { Appends (state S.Store journal.old) (state S.Store journal.new) line.now result }
-{
-    let entries = book.entries().1.len();
-    if entries != plan.entries() {
-        drop(plan);
-        return Err(EntryFault::Book(Refusal::Stale(entries)));
-    }
-    if let Err(fault) = append(journal, line) {
-        drop(plan);
-        return Err(EntryFault::Journal(fault));
-    }
-    let Ok(names) = book.rollback(plan) else {
-        unreachable!()
-    };
-    Ok(names)
 }
 
 fn append<S: Alter>(journal: &mut Journal<S>, line: &str) -> Result<(), JournalFault>

@@ -40,7 +40,7 @@ pub enum BeginRefusal {
     Journal(JournalFault),
 }
 
-/// Why a step, or a step and its consequences, aren't taken back. Each refusal leaves book and journal as they were.
+/// Why a command isn't entered. Each refusal leaves book and journal as they were.
 #[derive(Debug, Drop)]
 pub enum EntryFault {
     /// The book refuses.

@@ -7,7 +7,6 @@
 mod away;
 mod book;
 mod changing;
-mod commands;
 mod fault;
 mod lines;
 mod loading;

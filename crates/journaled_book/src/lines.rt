@@ -1,13 +1,12 @@
 // What one line does to a book.
-ghost use Rattle.std.specs.Prelude.{◌≡◌, ℕ, List, Err, IfOk, IsOk, OnOk, Some, None};
-ghost use Rattle.book_log.specs.Answers.{plan_answer};
+ghost use Rattle.std.specs.Prelude.{◌≡◌, ℕ, List, Err, IfOk, OnOk, Some, None};
 ghost use Rattle.book_log.specs.Beginning.{begun_table};
 ghost use Rattle.book_log.specs.Legal.{IsAccepted};
 ghost use Rattle.book_log.specs.Log.{Log, appended};
 ghost use Rattle.book_log.specs.declared.refusal.Refusal.{Refusal};
 ghost use Rattle.command_lines.specs.Grammar as grammar;
 ghost use Rattle.command_lines.specs.Grammar.{command_view};
-ghost use Rattle.rollback_book.specs.Making.{AnswersMade, IsProperChange};
+ghost use Rattle.rollback_book.specs.Making.{IsCommandAnswered, IsProperChange, made_entry};
 ghost use Rattle.rollback_book.specs.declared.making.Made.{Made};
 ghost use Rattle.journaled_book.specs.Journaled.{log_of};
 ghost use Rattle.journaled_book.specs.Lines.{Adds, Begins, Follows, IsDamaged, SaysChange};
@@ -21,7 +20,6 @@ use command_lines::{Command, CommandFault, Execution};
 use json_tree::Text;
 use rollback_book::{Book, Change};
 use std::alloc::Global;
-use step_names::{StepName, ThreadName};
 
 /// The book after one more line: the first begins it, and each other is one entry.
 pub(crate) fn add_line(alloc: Global, book: Option<Book>, line: &str) -> Result<Book, LineFault>
@@ -119,11 +117,11 @@ fn enter_command(alloc: Global, book: &mut Book, command: Command<'_>) -> Result
             machine,
             input,
         } => enter_start(alloc, book, &exec, &machine, input),
-        Command::Step(thread) => enter_step(alloc, book, &thread),
-        Command::Undo(step) => enter_undo(alloc, book, &step),
-        Command::Rollback(step) => enter_rollback(alloc, book, &step),
-        Command::Settle => enter_settle(alloc, book),
-        Command::Hold(step) => enter_hold(alloc, book, &step),
+        Command::Step(thread) => enter_change(alloc, book, Change::Step { thread: &thread }),
+        Command::Undo(step) => enter_change(alloc, book, Change::Undo { step: &step }),
+        Command::Rollback(step) => enter_change(alloc, book, Change::Rollback { step: &step }),
+        Command::Settle => enter_change(alloc, book, Change::Settle),
+        Command::Hold(step) => enter_change(alloc, book, Change::Hold { step: &step }),
         other => {
             drop(other);
             Err(LineFault::Damaged)
@@ -173,27 +171,6 @@ fn enter_start(
     )
 }
 
-fn enter_step(alloc: Global, book: &mut Book, thread: &ThreadName) -> Result<(), LineFault>
-    ensures ok { OnOk result (AddsBy book.old.log (grammar.step thread.now) book.new.log) }
-    ensures damaged { result ≡ Err LineFault.Damaged → IsDamagedBy (Some book.old.log) (grammar.step thread.now) }
-{
-    enter_change(alloc, book, Change::Step { thread })
-}
-
-fn enter_settle(alloc: Global, book: &mut Book) -> Result<(), LineFault>
-    ensures ok { OnOk result (AddsBy book.old.log grammar.settle book.new.log) }
-    ensures damaged { result ≡ Err LineFault.Damaged → IsDamagedBy (Some book.old.log) grammar.settle }
-{
-    enter_change(alloc, book, Change::Settle)
-}
-
-fn enter_hold(alloc: Global, book: &mut Book, step: &StepName) -> Result<(), LineFault>
-    ensures ok { OnOk result (AddsBy book.old.log (grammar.hold step.now) book.new.log) }
-    ensures damaged { result ≡ Err LineFault.Damaged → IsDamagedBy (Some book.old.log) (grammar.hold step.now) }
-{
-    enter_change(alloc, book, Change::Hold { step })
-}
-
 fn enter_change(alloc: Global, book: &mut Book, change: Change<'_>) -> Result<(), LineFault>
     requires { IsProperChange change }
     ensures ok { OnOk result ((line : List ℕ) → SaysChange change.entry line → Adds book.old.log line book.new.log) }
@@ -201,39 +178,11 @@ fn enter_change(alloc: Global, book: &mut Book, change: Change<'_>) -> Result<()
 {
     match book.ready_entry(alloc, change) {
         Ok(made) => {
-            let _ = book.enter(made);
+            book.enter(made);
             Ok(())
         }
         Err(refusal) => Err(refused_line(refusal)),
     }
-}
-
-fn enter_undo(alloc: Global, book: &mut Book, step: &StepName) -> Result<(), LineFault>
-    ensures ok { OnOk result (AddsBy book.old.log (grammar.undo step.now) book.new.log) }
-    ensures damaged { result ≡ Err LineFault.Damaged → IsDamagedBy (Some book.old.log) (grammar.undo step.now) }
-{
-    let room = match book.room(alloc, step) {
-        Ok(room) => room,
-        Err(_) => return Err(LineFault::Memory),
-    };
-    match book.undo(room) {
-        Ok(_) => Ok(()),
-        Err(refusal) => Err(refused_line(refusal)),
-    }
-}
-
-fn enter_rollback(alloc: Global, book: &mut Book, step: &StepName) -> Result<(), LineFault>
-    ensures ok { OnOk result (AddsBy book.old.log (grammar.rollback step.now) book.new.log) }
-    ensures damaged { result ≡ Err LineFault.Damaged → IsDamagedBy (Some book.old.log) (grammar.rollback step.now) }
-{
-    let room = match book.plan_room(alloc, step) {
-        Ok(room) => room,
-        Err(refusal) => return Err(refused_line(refusal)),
-    };
-    let Ok(_) = book.rollback(room) else {
-        unreachable!()
-    };
-    Ok(())
 }
 
 /// How a refusal of the book is told of a line.

@@ -61,10 +61,6 @@ pub items-begin : (name : List ℕ) (schema : KeySchema) (ds : List Data) (reply
 items-begin name schema ds reply after h =
     subst (λ (es : List Data). AnswersBeginning (record { table = name; schema = schema; items = es }) reply after) (sym (values_of ds)) h
 
-pub begin-done : (begin : Begin) (r : Result Table ItemFault) (reply : List ℕ) (after : Option Log) → IsOk r → (reply ≡ done_reply) × (after ≡ Some (record { begin = begin; entries = [] })) → AnswersBegin begin r reply after
-begin-done begin (Ok items) reply after ok h = inl h
-begin-done begin (Err fault) reply after ok h = cc
-
 pub begin-unwritten : (begin : Begin) (r : Result Table ItemFault) (reply : List ℕ) (after : Option Log) → IsOk r → (reply ≡ journal_reply) × (after ≡ None) → AnswersBegin begin r reply after
 begin-unwritten begin (Ok items) reply after ok h = inr h
 begin-unwritten begin (Err fault) reply after ok h = cc

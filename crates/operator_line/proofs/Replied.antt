@@ -1,96 +1,133 @@
 -- What a book answers, as it is told.
-use Rattle.std.proofs.Common.{◌≡◌, ℕ, List, [], ◌∷◌, map, Option, None, Some, Ok, Err, OnOk, inl, inr, refl, sym, ap, ◌∙◌, subst}
-use Rattle.std.specs.Prelude.{Result, IfSome}
-use Rattle.serde_json.specs.Data as source
+use Rattle.std.proofs.Common.{◌≡◌, ℕ, List, [], ◌∷◌, map, true, Option, None, Some, Ok, Err, inl, inr, refl, sym, ap, ◌∙◌, subst}
+use Rattle.std.specs.Prelude.{◌⊎◌, Result, IfSome, OnOk}
 use Rattle.std.specs.declared.alloc.AllocError.{AllocError}
-use Rattle.std.proofs.lemmas.Result.{on_ok_weaker}
+use Rattle.std.proofs.lemmas.Option.{same_Some}
+use Rattle.serde_json.specs.Data as source
+use Rattle.json_tree.specs.View.{data_of}
+use Rattle.json_tree.specs.declared.tree.Json.{Json}
+use Rattle.step_names.specs.Thread.{Thread}
 use Rattle.step_names.specs.declared.step.StepName.{StepName}
 use Rattle.step_names.specs.Written.{step_text}
 use Rattle.journaled_book.specs.Steps.{Step, name_of}
 use Rattle.journaled_book.specs.StepRecord.{StepRecord}
+use Rattle.book_log.specs.Answers.{HoldLacks, SettleLacks, StepLacks, hold_answer, plan_answer, remains, settle_answer, start_answer, step_answer, undo_answer}
+use Rattle.book_log.specs.Legal.{IsAccepted}
 use Rattle.book_log.specs.Log.{Log, appended}
 use Rattle.book_log.specs.declared.entry.Entry.{Entry}
-use Rattle.book_log.specs.declared.entry.Entry.TheVariants.{Step as Stepped, Settle, Hold}
+use Rattle.book_log.specs.declared.entry.Entry.TheVariants.{Start}
 use Rattle.book_log.specs.declared.refusal.Refusal.{Refusal}
 use Rattle.book_log.specs.declared.refusal.Refusal.TheVariants.{Memory}
 use Rattle.book_log.specs.declared.moved.Moved.{Moved}
+use Rattle.command_lines.specs.Grammar as grammar
+use Rattle.command_lines.specs.Grammar.{CommandView, command_of}
 use Rattle.journaled_book.specs.Book.{BookView}
-use Rattle.journaled_book.specs.Changes.{RefusesChange, RefusesChangeOr, RefusesDefine as Refuses}
+use Rattle.journaled_book.specs.Change.{Change}
+use Rattle.journaled_book.specs.Change.TheVariants as change
+use Rattle.journaled_book.specs.Changes.{IsMadeReady}
 use Rattle.journaled_book.specs.Journaled.{log_of}
-use Rattle.journaled_book.specs.declared.fault.EntryFault.{EntryFault}
-use Rattle.journaled_book.specs.declared.fault.EntryFault.TheVariants as by
-use Rattle.operator_line.specs.Answers.{AnswersUnchanged, journal_reply, change_reply, AnswersDefine, RepliesHold, RepliesSettle, RepliesStep, AnswersStarted}
-use Rattle.reply_lines.specs.Replies.{count_reply, done_reply, moved_reply, step_reply, refusal_reply}
+use Rattle.journaled_book.specs.Lines.{IsStartLine, SaysChange}
+use Rattle.journaled_book.specs.Made.{Made}
+use Rattle.journaled_book.specs.Making.{IsCommandAnswered}
+use Rattle.journaled_book.specs.Planned.{OrMemory}
+use Rattle.operator_line.specs.Answers.{AnswersAppended, AnswersClosed, AnswersDefine, AnswersInput, AnswersOpen, AnswersStarted, AnswersUnchanged, RepliesHold, RepliesRollback, RepliesSettle, RepliesStep, RepliesUndo}
+use Rattle.operator_line.proofs.Json.{json-read}
+use Rattle.reply_lines.specs.Replies.{entry_reply, no_table, refusal_reply, refused}
 
 -- what holds of a book's log holds of this one
 pub in_log : (P : Log → Type 0) (book : Option BookView) (log : Log) → log_of book ≡ Some log → IfSome book (λ b. P b.log) → P log
 in_log P None log is h = cc
 in_log P (Some b) log is h = let same : b.log ≡ log = cc in subst P same h
 
--- ---- a command that isn't accepted
+-- ---- a command of one entry
 
-module _ {T : Type 0} (Answer : Result T Refusal → List ℕ → Option Log → Type 0) (log : Log)
-    (by-book : (e : Refusal) (text : List ℕ) (after : Option Log) → AnswersUnchanged (refusal_reply e) (Some log) text after → Answer (Err e) text after)
-    (by-journal : (x : T) (text : List ℕ) (after : Option Log) → AnswersUnchanged journal_reply (Some log) text after → Answer (Ok x) text after) where
-  change-refused : {U : Type 0} → (lacks : Type 0) (fault : EntryFault) (answer : Result T Refusal) (r : Result U AllocError) (text : List ℕ) (after : Option Log) → RefusesChangeOr lacks answer fault
-      → after ≡ Some log → (fault ≡ by.Book Memory → OnOk r ⊥) → OnOk r (text ≡ change_reply fault) → OnOk r (Answer answer text after)
-  change-refused lacks (by.Book e) answer r text after (inr h) same memory w = on_ok_weaker r (λ b. absurd b) (memory (ap (λ f. by.Book f) h.0))
-  change-refused lacks (by.Book e) (Ok x) r text after (inl h) same memory w = on_ok_weaker r (λ b. absurd b) (memory (ap (λ f. by.Book f) h))
-  change-refused lacks (by.Book e) (Err f) r text after (inl h) same memory w = subst (λ (x : Refusal). OnOk r (Answer (Err x) text after)) h (on_ok_weaker r (λ t. by-book e text after (t, same)) w)
-  change-refused lacks (by.Journal f) (Ok x) r text after h same memory w = on_ok_weaker r (λ t. by-journal x text after (t, same)) w
-  change-refused lacks (by.Journal f) (Err e) r text after h same memory w = cc
+module _ (line : List ℕ) (command : CommandView) (is : command_of line ≡ Some command) where
+  one_command : (said : CommandView) → command_of line ≡ Some said → said ≡ command
+  one_command said says = same_Some said command (sym says ∙ is)
 
--- where memory is told for no other answer
-or_none : {T : Type 0} (answer : Result T Refusal) (fault : EntryFault) → RefusesChange answer fault → RefusesChangeOr ⊥ answer fault
-or_none answer (by.Book e) h = inl h
-or_none answer (by.Journal f) h = h
+  -- without a table
+  pub answers_no_table : (what : Change) (text : List ℕ) (after : Option Log) → SaysChange what line → AnswersUnchanged (refused no_table) None text after → AnswersClosed command text after
+  answers_no_table (change.Define name d) text after says told = subst (λ (c : CommandView). AnswersClosed c text after) (one_command (grammar.define name.now says.0) says.1) told
+  answers_no_table (change.Start exec machine input) text after says told = subst (λ (c : CommandView). AnswersClosed c text after) (one_command (grammar.start exec.now machine.now says.json) says.is_start) told
+  answers_no_table (change.Step thread) text after says told = subst (λ (c : CommandView). AnswersClosed c text after) (one_command (grammar.step thread.now) says) told
+  answers_no_table (change.Undo step) text after says told = subst (λ (c : CommandView). AnswersClosed c text after) (one_command (grammar.undo step.now) says) told
+  answers_no_table (change.Rollback step) text after says told = subst (λ (c : CommandView). AnswersClosed c text after) (one_command (grammar.rollback step.now) says) told
+  answers_no_table change.Settle text after says told = subst (λ (c : CommandView). AnswersClosed c text after) (one_command grammar.settle says) told
+  answers_no_table (change.Hold step) text after says told = subst (λ (c : CommandView). AnswersClosed c text after) (one_command (grammar.hold step.now) says) told
 
--- ---- a step
+  module _ (log : Log) (text : List ℕ) (after : Option Log) where
+    open_by : (said : CommandView) → command_of line ≡ Some said → AnswersOpen log said text after → AnswersOpen log command text after
+    open_by said says answers = subst (λ (c : CommandView). AnswersOpen log c text after) (one_command said says) answers
 
-pub step-done : {U : Type 0} → (log : Log) (after : Option Log) (m : Moved) (answer : Result Moved Refusal) (r : Result U AllocError) (text : List ℕ) → answer ≡ Ok m
-    → after ≡ Some (appended log (Stepped m.name m.kind)) → OnOk r (text ≡ moved_reply m) → OnOk r (RepliesStep log answer text after)
-step-done log after m answer r text is a w = subst (λ (x : Result Moved Refusal). OnOk r (RepliesStep log x text after)) (sym is) (on_ok_weaker r (λ e. inl (e, a)) w)
+    -- a start, whose input is read
+    started_by : (exec : Thread) (machine : List ℕ) (input : Json) → IsStartLine line exec machine input → AnswersStarted log (Start exec machine input) (start_answer log exec machine) text after → AnswersOpen log command text after
+    started_by exec machine input says told =
+        open_by (grammar.start exec machine says.json) says.is_start
+        (json-read says.json (data_of input) (λ told'. AnswersUnchanged told' (Some log) text after) (λ d. AnswersInput log exec machine d text after) says.is_read (record { input = input; is_read = refl; told = told }))
 
-pub step-refused : {U : Type 0} → (log : Log) (after : Option Log) (fault : EntryFault) (answer : Result Moved Refusal) (r : Result U AllocError) (text : List ℕ) (lacks : Type 0) → RefusesChangeOr lacks answer fault
-    → after ≡ Some log → (fault ≡ by.Book Memory → OnOk r ⊥) → OnOk r (text ≡ change_reply fault) → OnOk r (RepliesStep log answer text after)
-step-refused log after fault answer r text lacks = change-refused (RepliesStep log) log (λ e text after h. h) (λ m text after h. inr h) lacks fault answer r text after
+    -- its entry's reply is told, or the journal refuses its line
+    abbrev IsTold : Entry → Type 0
+    IsTold entry = AnswersAppended (entry_reply entry) (Some (appended log entry)) (Some log) text after
 
--- ---- a start
+    pub answers_entered : (what : Change) (entry : Entry) → IsCommandAnswered log what (Ok entry) → IsAccepted log entry → SaysChange what line → IsTold entry → AnswersOpen log command text after
+    answers_entered (change.Define name d) entry h ok says told =
+        open_by (grammar.define name.now says.0) says.1
+        (subst (λ (o : Option source.Data). AnswersDefine log name.now o text after) (sym says.2)
+        (inl (record { machine = h.0; is_one = h.1; is_accepted = subst (IsAccepted log) h.2 ok; told = subst IsTold h.2 told })))
+    answers_entered (change.Start exec machine input) entry h ok says told =
+        started_by exec.now machine.now input says
+        (subst (λ (r : Result StepName Refusal). AnswersStarted log (Start exec.now machine.now input) r text after) (sym h.0) (subst IsTold h.1 told))
+    answers_entered (change.Step thread) entry h ok says told =
+        open_by (grammar.step thread.now) says (subst (λ (r : Result Moved Refusal). RepliesStep log r text after) (sym h.1) (subst IsTold h.2 told))
+    answers_entered (change.Undo step) entry h ok says told =
+        open_by (grammar.undo step.now) says (subst (λ (r : Result StepName Refusal). RepliesUndo log step.now r text after) (sym h.0) (subst IsTold h.1 told))
+    answers_entered (change.Rollback step) entry h ok says told =
+        open_by (grammar.rollback step.now) says (subst (λ (r : Result (List StepName) Refusal). RepliesRollback log step.now r text after) (sym h.1) (subst IsTold h.2 told))
+    answers_entered change.Settle entry h ok says told =
+        open_by grammar.settle says (subst (λ (r : Result (Unit {0}) Refusal). RepliesSettle log r text after) (sym h.0) (subst IsTold h.1 told))
+    answers_entered (change.Hold step) entry h ok says told =
+        open_by (grammar.hold step.now) says (subst (λ (r : Result ℕ Refusal). RepliesHold log step.now r text after) (sym h.1) (subst IsTold h.2 told))
 
-pub start-done : {U : Type 0} → (log : Log) (after : Option Log) (entry : Entry) (name : StepName) (answer : Result StepName Refusal) (r : Result U AllocError) (text : List ℕ) → answer ≡ Ok name
-    → after ≡ Some (appended log entry) → OnOk r (text ≡ step_reply name) → OnOk r (AnswersStarted log entry answer text after)
-start-done log after entry name answer r text is a w = subst (λ (x : Result StepName Refusal). OnOk r (AnswersStarted log entry x text after)) (sym is) (on_ok_weaker r (λ e. inl (e, a)) w)
+    -- it is refused as the book refuses it, but not if memory is wanting
+    module _ (e : Refusal) (kept : e ≡ Memory → ⊥) (told : AnswersUnchanged (refusal_reply e) (Some log) text after) where
+      refused_as : {T : Type 0} (Answer : Result T Refusal → Type 0) (answer : Result T Refusal) → Answer (Err e) → OrMemory answer e → Answer answer
+      refused_as Answer (Ok x) t h = absurd (kept h)
+      refused_as Answer (Err f) t h = subst (λ (x : Refusal). Answer (Err x)) h t
 
-pub start-refused : {U : Type 0} → (log : Log) (after : Option Log) (entry : Entry) (fault : EntryFault) (answer : Result StepName Refusal) (r : Result U AllocError) (text : List ℕ) → RefusesChange answer fault
-    → after ≡ Some log → (fault ≡ by.Book Memory → OnOk r ⊥) → OnOk r (text ≡ change_reply fault) → OnOk r (AnswersStarted log entry answer text after)
-start-refused log after entry fault answer r text h = change-refused (AnswersStarted log entry) log (λ e text after h. h) (λ m text after h. inr h) ⊥ fault answer r text after (or_none answer fault h)
+      refused_or : {T : Type 0} (lacks : Type 0) (Answer : Result T Refusal → Type 0) (answer : Result T Refusal) → Answer (Err e) → OrMemory answer e ⊎ ((e ≡ Memory) × lacks) → Answer answer
+      refused_or lacks Answer answer t (inl h) = refused_as Answer answer t h
+      refused_or lacks Answer answer t (inr h) = absurd (kept h.0)
 
--- ---- a settlement
+      undo_refused : (name : StepName) → ((e ≡ Memory) × (remains log name ≡ true)) ⊎ (undo_answer log name ≡ Err e) → RepliesUndo log name (undo_answer log name) text after
+      undo_refused name (inl h) = absurd (kept h.0)
+      undo_refused name (inr h) = subst (λ (r : Result StepName Refusal). RepliesUndo log name r text after) (sym h) told
 
-pub settle-done : {U : Type 0} → (log : Log) (after : Option Log) (answer : Result (Unit {0}) Refusal) (r : Result U AllocError) (text : List ℕ) → answer ≡ Ok tt
-    → after ≡ Some (appended log Settle) → OnOk r (text ≡ done_reply) → OnOk r (RepliesSettle log answer text after)
-settle-done log after answer r text is a w = subst (λ (x : Result (Unit {0}) Refusal). OnOk r (RepliesSettle log x text after)) (sym is) (on_ok_weaker r (λ e. inl (e, a)) w)
+      pub answers_refused : (what : Change) → IsCommandAnswered log what (Err e) → SaysChange what line → AnswersOpen log command text after
+      answers_refused (change.Define name d) h says =
+          open_by (grammar.define name.now says.0) says.1
+          (subst (λ (o : Option source.Data). AnswersDefine log name.now o text after) (sym says.2) (inr (record { refusal = e; stands = h; told = told })))
+      answers_refused (change.Start exec machine input) h says =
+          started_by exec.now machine.now input says
+          (refused_as (λ r. AnswersStarted log (Start exec.now machine.now input) r text after) (start_answer log exec.now machine.now) told h)
+      answers_refused (change.Step thread) h says =
+          open_by (grammar.step thread.now) says (refused_or (StepLacks log thread.now) (λ r. RepliesStep log r text after) (step_answer log thread.now) told h)
+      answers_refused (change.Undo step) h says = open_by (grammar.undo step.now) says (undo_refused step.now h)
+      answers_refused (change.Rollback step) h says =
+          open_by (grammar.rollback step.now) says (refused_as (λ r. RepliesRollback log step.now r text after) (plan_answer log step.now) told h)
+      answers_refused change.Settle h says =
+          open_by grammar.settle says (refused_or (SettleLacks log) (λ r. RepliesSettle log r text after) (settle_answer log) told h)
+      answers_refused (change.Hold step) h says =
+          open_by (grammar.hold step.now) says (refused_or (HoldLacks log step.now) (λ r. RepliesHold log step.now r text after) (hold_answer log step.now) told h)
 
-pub settle-refused : {U : Type 0} → (log : Log) (after : Option Log) (fault : EntryFault) (answer : Result (Unit {0}) Refusal) (r : Result U AllocError) (text : List ℕ) (lacks : Type 0) → RefusesChangeOr lacks answer fault
-    → after ≡ Some log → (fault ≡ by.Book Memory → OnOk r ⊥) → OnOk r (text ≡ change_reply fault) → OnOk r (RepliesSettle log answer text after)
-settle-refused log after fault answer r text lacks = change-refused (RepliesSettle log) log (λ e text after h. h) (λ m text after h. inr h) lacks fault answer r text after
+-- memory that is refused isn't told
+pub refused_told : {U : Type 0} (e : Refusal) (r : Result U AllocError) (Told Answers : Type 0) → ((e ≡ Memory → ⊥) → Told → Answers) → (e ≡ Memory → OnOk r ⊥) → OnOk r Told → OnOk r Answers
+refused_told e (Ok x) Told Answers answers memory told = answers memory told
+refused_told e (Err f) Told Answers answers memory told = tt
 
--- ---- a hold
-
-pub hold-done : {U : Type 0} → (log : Log) (after : Option Log) (name : StepName) (count : ℕ) (answer : Result ℕ Refusal) (r : Result U AllocError) (text : List ℕ) → answer ≡ Ok count
-    → after ≡ Some (appended log (Hold name count)) → OnOk r (text ≡ count_reply count) → OnOk r (RepliesHold log name answer text after)
-hold-done log after name count answer r text is a w = subst (λ (x : Result ℕ Refusal). OnOk r (RepliesHold log name x text after)) (sym is) (on_ok_weaker r (λ e. inl (e, a)) w)
-
-pub hold-refused : {U : Type 0} → (log : Log) (after : Option Log) (name : StepName) (fault : EntryFault) (answer : Result ℕ Refusal) (r : Result U AllocError) (text : List ℕ) (lacks : Type 0) → RefusesChangeOr lacks answer fault
-    → after ≡ Some log → (fault ≡ by.Book Memory → OnOk r ⊥) → OnOk r (text ≡ change_reply fault) → OnOk r (RepliesHold log name answer text after)
-hold-refused log after name fault answer r text lacks = change-refused (RepliesHold log name) log (λ e text after h. h) (λ m text after h. inr h) lacks fault answer r text after
-
--- ---- a definition
-
-pub define-refused : {U : Type 0} → (log : Log) (after : Option Log) (name : List ℕ) (d : source.Data) (fault : EntryFault) (r : Result U AllocError) (text : List ℕ) → Refuses log name d fault
-    → after ≡ Some log → OnOk r (text ≡ change_reply fault) → OnOk r (AnswersDefine log name (Some d) text after)
-define-refused log after name d (by.Book e) r text h same w = on_ok_weaker r (λ t. inr (record { refusal = e; stands = h; told = (t, same) })) w
-define-refused log after name d (by.Journal f) r text h same w = on_ok_weaker r (λ t. inl (record { machine = h.0; is_one = h.1; is_accepted = h.2; told = inr (t, same) })) w
+-- what is made ready is accepted, as the log from before has it
+pub entry_accepted : (book now : Option BookView) (m : Made) (log : Log) → IsMadeReady now m → log_of now ≡ log_of book → log_of book ≡ Some log → IsAccepted log m.entry
+entry_accepted book None m log ready same is = absurd ready
+entry_accepted book (Some n) m log ready same is = let one : n.log ≡ log = same_Some n.log log (same ∙ is) in subst (λ (l : Log). IsAccepted l m.entry) one ready.is_accepted
 
 -- ---- a history
 

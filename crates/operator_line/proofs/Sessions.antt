@@ -45,12 +45,6 @@ some_kept None new some same = cc
 some_kept (Some b) None some same = cc
 some_kept (Some b) (Some a) some same = refl
 
--- and where it has an entry more
-pub some_entered : (old new : Option BookView) (entry : Entry) → IsSome old → log_of new ≡ with_entry (log_of old) entry → IsSome new
-some_entered None new entry some same = cc
-some_entered (Some b) None entry some same = cc
-some_entered (Some b) (Some a) entry some same = refl
-
 pub if_log : (P : Log → Type 0) (o : Option Log) → ((s : Log) → o ≡ Some s → P s) → IfSome o P
 if_log P None h = tt
 if_log P (Some s) h = h s refl
@@ -106,11 +100,6 @@ no_round Held apart = refl
 -- a disk that is clean after lines were appended, or refused, was so before
 pub appended_clean : {T E : Type 0} → (old new : State) (more : List (List ℕ)) (r : Result T E) → AppendsAll old new more r → HasCleanDisk new → HasCleanDisk old
 appended_clean old new more r appended clean = let less = appended.survives.clean in omega (arith, less, clean)
-
--- a command's line is appended, or the journal is as it was
-pub kept_by : {S T E : Type 0} → (shown : S → State) (line : List ℕ) (old new : S) (r : Result T E) → Appends (shown old) (shown new) line r → KeepsLine shown line old new
-kept_by shown line old new (Ok done) appended = record { lines = λ clean. inl (appended.ok clean); clean = appended_clean (shown old) (shown new) (line ∷ []) (Ok done) appended }
-kept_by shown line old new (Err fault) appended = record { lines = λ clean. inr (appended.err clean); clean = appended_clean (shown old) (shown new) (line ∷ []) (Err fault) appended }
 
 -- what a line kept tells of the disk
 pub kept_clean : {S : Type 0} → (shown : S → State) (line : List ℕ) (old new : S) → KeepsLine shown line old new → WasClean shown old new

@@ -1,6 +1,6 @@
 -- Steps that are taken one after another, while some are left to take.
 use Rattle.std.proofs.Common.{◌≡◌, ◌<◌, ◌+◌, ◌-◌, ◌^◌, ℕ, zero, suc, List, [], ◌∷◌, ◌++◌, map, length, true, false, Bool, not, ◌&&◌, ◌||◌, cond, Option, None, Some, Result, Ok, Err, inl, inr, refl, sym, ap, subst, ◌∙◌, arith}
-use Rattle.std.specs.Prelude.{◌⊎◌, IfOk, IfSome, OnOk}
+use Rattle.std.specs.Prelude.{◌⊎◌, IfOk, IfSome, IsOk, OnOk}
 use Rattle.std.specs.BTreeSet.{BTreeSet}
 use Rattle.std.specs.Ordering.{eq_by_cmp}
 use Rattle.std.proofs.lemmas.List.{append_assoc, append-nil, length-append, length-map, map-append}
@@ -8,7 +8,8 @@ use Rattle.step_names.specs.Order.{thread_cmp}
 use Rattle.step_names.specs.Thread.{Thread}
 use Rattle.step_names.specs.Written.{step_text}
 use Rattle.step_names.specs.declared.step.StepName.{StepName}
-use Rattle.book_log.specs.Answers.{StepLacks, is_enabled, step_answer}
+use Rattle.book_journal.specs.declared.fault.JournalFault.{JournalFault}
+use Rattle.book_log.specs.Answers.{is_enabled, step_answer}
 use Rattle.book_log.proofs.Elsewhere.{steps_leave_others}
 use Rattle.book_log.specs.Legal.{IsAccepted, IsLegal}
 use Rattle.book_log.specs.Log.{Log, appended, world_of}
@@ -18,11 +19,11 @@ use Rattle.book_log.specs.declared.refusal.Refusal.{Refusal}
 use Rattle.book_log.specs.declared.refusal.Refusal.TheVariants.{NoMachine, MachineTaken, BadMachine, ExecTaken, NoThread, NotReady, NoStep, HasDependents, Stale, Full, Memory, Settled, Held}
 use Rattle.journaled_book.proofs.Cursors.{none_at_first, none_left_out, none_up_to}
 use Rattle.journaled_book.proofs.Threads.{step_thread}
-use Rattle.journaled_book.specs.Changes.{RefusesChangeOr}
 use Rattle.journaled_book.specs.Cursors.{GoesBack, IsUpTo, LeavesNoneOut, first_of_all, cursor_place}
 use Rattle.journaled_book.specs.Cursor.{Cursor}
+use Rattle.journaled_book.specs.Kind.{Kind}
 use Rattle.journaled_book.specs.First.{IsFirstReady}
-use Rattle.journaled_book.specs.Planned.{OrMemory}
+use Rattle.journaled_book.specs.Planned.{IsMoveRefusal, OrMemory}
 use Rattle.journaled_book.specs.FirstMove.{IsFirstToMove, moves_freely}
 use Rattle.journaled_book.specs.declared.fault.EntryFault.{EntryFault}
 use Rattle.journaled_book.specs.declared.fault.EntryFault.TheVariants as by
@@ -78,6 +79,12 @@ first_is_free log P (Ok None) h = tt
 first_is_free log P (Ok (Some t)) h = not_true (is_enabled log t) (P t) h.1
 first_is_free log P (Err e) h = tt
 
+-- the thread whose turn it is
+pub its_turn : (o : Option Log) (P : Thread → Bool) (r : Result (Option Thread) Refusal) (found : Option Thread) (t : Thread) (log : Log) → r ≡ Ok found → found ≡ Some t → o ≡ Some log
+    → IfSome o (λ s. IfOk r (IsFirstMoving P s)) → IsLeastEnabled P log t
+its_turn o P r found t log ok is held first =
+    subst (IsFirstMoving P log) is (subst (λ (x : Result (Option Thread) Refusal). IfOk x (IsFirstMoving P log)) ok (subst (λ (x : Option Log). IfSome x (λ s. IfOk r (IsFirstMoving P s))) held first))
+
 pub first_found : (log : Log) (P : Thread → Bool) (r : Result (Option Thread) Refusal) → IfOk r (IsFirstToMove log P) → IfOk r (IsFirstMoving P log)
 first_found log P (Ok None) h = h
 first_found log P (Ok (Some t)) h = record { moves = h.1; least = h.2 }
@@ -105,7 +112,7 @@ not_held (by.Book Settled) apart = refl
 not_held (by.Book (Held x)) apart = absurd (apart x refl)
 not_held (by.Journal fault) apart = refl
 
-needs_held : (log : Log) (t : Thread) (x : StepName) → RefusesChangeOr (StepLacks log t) (step_answer log t) (by.Book (Held x)) → NeedsHeld log t
+needs_held : (log : Log) (t : Thread) (x : StepName) → IsMoveRefusal log t (Held x) → NeedsHeld log t
 needs_held log t x (inr h) = let wrong = h.0 in cc
 needs_held log t x (inl h) = by_answer (step_answer log t) refl h
   where
@@ -113,24 +120,30 @@ needs_held log t x (inl h) = by_answer (step_answer log t) refl h
     by_answer (Ok m) is same = cc
     by_answer (Err f) is same = (x, is ∙ ap (λ (e : Refusal). let r : Result Moved Refusal = Err e in r) (sym same))
 
-pub stops_drive : (log : Log) (passed : Thread → Bool) (t : Thread) (fault : EntryFault) → IsLeastEnabled passed log t → RefusesChangeOr (StepLacks log t) (step_answer log t) fault → is_for_hold fault ≡ false
-    → StopsDrive passed log fault
-stops_drive log passed t (by.Book e) first (inr h) other = inl h.0
-stops_drive log passed t (by.Book e) first (inl h) other = by_answer (step_answer log t) refl h
+stops_drive : (log : Log) (passed : Thread → Bool) (t : Thread) (e : Refusal) → IsLeastEnabled passed log t → IsMoveRefusal log t e → is_held_refusal e ≡ false → StopsDrive passed log (by.Book e)
+stops_drive log passed t e first (inr h) other = inl h.0
+stops_drive log passed t e first (inl h) other = by_answer (step_answer log t) refl h
   where
     by_answer : (a : Result Moved Refusal) → step_answer log t ≡ a → OrMemory a e → (e ≡ Memory) ⊎ ((u : Thread) × IsLeastEnabled passed log u × (step_answer log u ≡ Err e) × (is_held_refusal e ≡ false))
     by_answer (Ok m) is same = inl same
     by_answer (Err f) is same = inr (t, first, is ∙ ap (λ (x : Refusal). let r : Result Moved Refusal = Err x in r) (sym same), other)
-stops_drive log passed t (by.Journal f) first h other = (t, first, h.0)
 
-pub refused_turn : (log : Log) (t : Thread) (passed more : BTreeSet Thread) (lines same : Lines) (fault : EntryFault) (r : Result Tried EntryFault) → IsLeastEnabled (passed_in passed) log t
-    → RefusesChangeOr (StepLacks log t) (step_answer log t) fault → PassesBy t fault passed more r → KeepsLines lines same → TakesOne log log passed more lines same r
-refused_turn log t passed more lines same fault (Ok StepTaken) first h p k = absurd p
-refused_turn log t passed more lines same fault (Ok PassedBy) first h p k =
-    (t, first, needs_held log t p.0 (subst (RefusesChangeOr (StepLacks log t) (step_answer log t)) p.1 h), refl, k, p.2)
-refused_turn log t passed more lines same fault (Ok NoMove) first h p k = absurd p
-refused_turn log t passed more lines same fault (Err told) first h (inl memory) k = (subst (StopsDrive (passed_in passed) log) (sym memory) (inl refl), refl, k)
-refused_turn log t passed more lines same fault (Err told) first h (inr p) k = (subst (StopsDrive (passed_in passed) log) (sym p.0) (stops_drive log (passed_in passed) t fault first h p.1), refl, k)
+pub refused_turn : (log : Log) (t : Thread) (passed more : BTreeSet Thread) (lines same : Lines) (e : Refusal) (r : Result Tried EntryFault) → IsLeastEnabled (passed_in passed) log t
+    → IsMoveRefusal log t e → PassesBy t (by.Book e) passed more r → KeepsLines lines same → TakesOne log log passed more lines same r
+refused_turn log t passed more lines same e (Ok StepTaken) first h p k = absurd p
+refused_turn log t passed more lines same e (Ok PassedBy) first h p k =
+    let is = p.1 in
+    let needs : e ≡ Held p.0 = cc in
+    (t, first, needs_held log t p.0 (subst (IsMoveRefusal log t) needs h), refl, k, p.2)
+refused_turn log t passed more lines same e (Ok NoMove) first h p k = absurd p
+refused_turn log t passed more lines same e (Err told) first h (inl memory) k = (subst (StopsDrive (passed_in passed) log) (sym memory) (inl refl), refl, k)
+refused_turn log t passed more lines same e (Err told) first h (inr p) k = (subst (StopsDrive (passed_in passed) log) (sym p.0) (stops_drive log (passed_in passed) t e first h p.1), refl, k)
+
+-- the name of the step that is taken, by its thread and its number
+pub own_name : (m : Moved) (t : Thread) (name : StepName) (kind : Kind) → m.name.thread ≡ t → Stepped m.name m.kind ≡ Stepped name kind → record { thread = t; no = name.no } ≡ m.name
+own_name m t name kind own same =
+    let one : name ≡ m.name = cc in
+    ap (λ (u : Thread). let x : StepName = record { thread = u; no = name.no } in x) (sym own) ∙ ap (λ (n : StepName). let x : StepName = record { thread = m.name.thread; no = n.no } in x) one
 
 -- ---- all turns
 

@@ -9,15 +9,15 @@ ghost use Rattle.operator_line.specs.Sessions.{WasClean, log_in};
 ghost use Rattle.reply_lines.specs.Replying.{AreLines, has_room_for_lines};
 
 use crate::open_session::refuse_change;
-use book_log::Refusal;
+use book_log::{Entry, Refusal};
 use command_lines::step_line;
-use journaled_book::books::Cursor;
+use journaled_book::books::{Change, Cursor};
 use journaled_book::{EntryFault, JournaledBook};
 use reply_lines::{Lines, Reply};
 use sqlite::Alter;
 use std::alloc::{AllocError, Global};
 use std::collections::BTreeSet;
-use step_names::ThreadName;
+use step_names::{StepName, ThreadName};
 
 /// What came of one turn.
 #[derive(Clone, Copy)]
@@ -110,12 +110,19 @@ fn take_step<S: Alter>(
         return Ok(Tried::NoMove);
     };
     let line = step_line(alloc, &thread)?;
-    let moved = match book.step(alloc, &thread, line.as_str()) {
-        Ok(moved) => moved,
-        Err(fault) => return pass_by(passed, cursor, thread, fault),
+    let made = match book.prepare(alloc, Change::Step { thread: &thread }) {
+        Ok(made) => made,
+        Err(refusal) => return pass_by(passed, cursor, thread, EntryFault::Book(refusal)),
     };
+    let Entry::Step { name, .. } = made.entry() else {
+        unreachable!()
+    };
+    let no = name.no;
+    if let Err(fault) = book.enter(made, line.as_str()) {
+        return Err(EntryFault::Journal(fault));
+    }
     cursor.go_back(thread.exec());
-    let Ok(()) = lines.add_step(&moved.name) else {
+    let Ok(()) = lines.add_step(&StepName { thread, no }) else {
         unreachable!()
     };
     Ok(Tried::Taken)

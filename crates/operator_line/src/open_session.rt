@@ -1,13 +1,13 @@
 // The commands that are given to a book whose commands stand in a journal, but for a round of workers.
-ghost use Rattle.std.specs.Prelude.{◌≡◌, [], Some, None, false, string_bytes, IfSome, IsSome, OnOk, OnErr};
+ghost use Rattle.std.specs.Prelude.{◌≡◌, [], Some, None, false, string_bytes, OnOk, OnErr};
 ghost use Rattle.sqlite.specs.Held.{state};
-ghost use Rattle.journaled_book.specs.Lines.{IsBeginLine};
-ghost use Rattle.journaled_book.specs.Planned.{IsPlanned};
+ghost use Rattle.journaled_book.specs.Lines.{IsBeginLine, SaysChange};
+ghost use Rattle.journaled_book.specs.Making.{IsProperChange};
 ghost use Rattle.operator_line.specs.Answering.{is_work};
 ghost use Rattle.operator_line.specs.Answers.{AnswersBeginning, AnswersCommand, change_reply, left_names};
 ghost use Rattle.operator_line.specs.Sessions.{KeepsLine, WasClean, has_own_lines, log_in};
 ghost use Rattle.command_lines.specs.Grammar as grammar;
-ghost use Rattle.command_lines.specs.Grammar.{command_of, command_view};
+ghost use Rattle.command_lines.specs.Grammar.{CommandView, command_of, command_view};
 ghost use Rattle.reply_lines.specs.Replies.{json_reply, item_fault_reply, names_reply};
 ghost use Rattle.reply_lines.specs.Replying.{AppendsReply};
 
@@ -16,7 +16,7 @@ use crate::working::tell_no_steps;
 use attr_values::{ItemFault, KeySchema};
 use book_log::Refusal;
 use command_lines::{Command, Execution};
-use journaled_book::books::{Begin, Book, PlanRoom};
+use journaled_book::books::{Begin, Book, Change};
 use journaled_book::{BeginRefusal, EntryFault, JournaledBook};
 use json_tree::{Json, JsonFault, Text, read};
 use reply_lines::Reply;
@@ -86,12 +86,12 @@ impl<S: Alter> OpenSession<S> {
                 machine,
                 input,
             } => self.start(&exec, &machine, input, line, reply),
-            Command::Step(thread) => self.step(&thread, line, reply),
-            Command::Undo(step) => self.undo(&step, line, reply),
+            Command::Step(thread) => self.change(Change::Step { thread: &thread }, line, reply),
+            Command::Undo(step) => self.change(Change::Undo { step: &step }, line, reply),
             Command::Plan(step) => self.plan(&step, reply),
-            Command::Rollback(step) => self.rollback(&step, line, reply),
-            Command::Settle => self.settle(line, reply),
-            Command::Hold(step) => self.hold(&step, line, reply),
+            Command::Rollback(step) => self.change(Change::Rollback { step: &step }, line, reply),
+            Command::Settle => self.change(Change::Settle, line, reply),
+            Command::Hold(step) => self.change(Change::Hold { step: &step }, line, reply),
             Command::Drive(count) => self.drive(count, reply),
             Command::Work { .. } => unreachable!(),
             Command::Show(thread) => self.show(&thread, reply),
@@ -143,11 +143,14 @@ impl<S: Alter> OpenSession<S> {
         ensures err { OnErr result (log_in self.new ≡ None) }
         ensures kept { KeepsLine (λ held. state S.Store held) line.now self.old.journal self.new.journal }
     {
-        reply.reserve_step()?;
-        match self.book.begin(self.alloc, begin, line) {
-            Ok(()) => reply.accept(),
-            Err(BeginRefusal::Item(fault)) => refuse_item(fault, reply),
-            Err(BeginRefusal::Journal(_)) => reply.refuse(NO_JOURNAL),
+        reply.accept()?;
+        let Err(refusal) = self.book.begin(self.alloc, begin, line) else {
+            return Ok(());
+        };
+        reply.clear();
+        match refusal {
+            BeginRefusal::Item(fault) => refuse_item(fault, reply),
+            BeginRefusal::Journal(_) => reply.refuse(NO_JOURNAL),
         }
     }
 
@@ -176,11 +179,14 @@ impl<S: Alter> OpenSession<S> {
                 return reply.refuse_by(BAD_JSON, 1);
             }
         };
-        reply.reserve_step()?;
-        match self.book.define(self.alloc, name, &definition, line) {
-            Ok(()) => reply.accept(),
-            Err(fault) => refuse_change(self.alloc, fault, reply),
-        }
+        self.change(
+            Change::Define {
+                name,
+                definition: &definition,
+            },
+            line,
+            reply,
+        )
     }
 
     fn start(
@@ -204,51 +210,50 @@ impl<S: Alter> OpenSession<S> {
             Ok(input) => input,
             Err(fault) => return refuse_json(fault, reply),
         };
-        reply.reserve_step()?;
-        match self
-            .book
-            .start(self.alloc, &exec.thread, machine, input, line)
-        {
-            Ok(name) => reply.accept_step(&name),
-            Err(fault) => refuse_change(self.alloc, fault, reply),
-        }
+        self.change(
+            Change::Start {
+                exec: &exec.thread,
+                machine,
+                input,
+            },
+            line,
+            reply,
+        )
     }
 
-    fn step(&mut self, thread: &ThreadName, line: &str, reply: &mut Reply) -> Result<(), AllocError>
-        requires line { command_of line.now ≡ Some (grammar.step thread.now) }
+    /// Any command of one entry. The reply is written before its line is appended, since what stands in the journal can't be taken
+    /// out again if memory for the reply is refused.
+    fn change(
+        &mut self,
+        change: Change<'_>,
+        line: &str,
+        reply: &mut Reply,
+    ) -> Result<(), AllocError>
+        requires proper { IsProperChange change }
+        requires says { SaysChange change line.now }
         requires empty { string_bytes reply.old.text ≡ [] }
-        ensures ok { OnOk result (AnswersCommand (log_in self.old) (grammar.step thread.now) (string_bytes reply.new.text) (log_in self.new)) }
+        ensures ok { (command : CommandView) → command_of line.now ≡ Some command → OnOk result (AnswersCommand (log_in self.old) command (string_bytes reply.new.text) (log_in self.new)) }
         ensures err { OnErr result (log_in self.new ≡ log_in self.old) }
         ensures kept { KeepsLine (λ held. state S.Store held) line.now self.old.journal self.new.journal }
     {
         if !self.book.is_open() {
+            drop(change);
             return reply.refuse(NO_TABLE);
         }
-        reply.reserve_step()?;
-        match self.book.step(self.alloc, thread, line) {
-            Ok(moved) => reply.accept_moved(&moved),
-            Err(fault) => refuse_change(self.alloc, fault, reply),
-        }
-    }
-
-    fn undo(&mut self, step: &StepName, line: &str, reply: &mut Reply) -> Result<(), AllocError>
-        requires line { command_of line.now ≡ Some (grammar.undo step.now) }
-        requires empty { string_bytes reply.old.text ≡ [] }
-        ensures ok { OnOk result (AnswersCommand (log_in self.old) (grammar.undo step.now) (string_bytes reply.new.text) (log_in self.new)) }
-        ensures err { OnErr result (log_in self.new ≡ log_in self.old) }
-        ensures kept { KeepsLine (λ held. state S.Store held) line.now self.old.journal self.new.journal }
-    {
-        if !self.book.is_open() {
-            return reply.refuse(NO_TABLE);
-        }
-        reply.reserve_step()?;
-        let room = match self.book.undo_room(self.alloc, step) {
-            Ok(room) => room,
+        let made = match self.book.prepare(self.alloc, change) {
+            Ok(made) => made,
             Err(refusal) => return reply.refuse_command(self.alloc, refusal),
         };
-        match self.book.undo(room, line) {
-            Ok(_step) => reply.accept(),
-            Err(fault) => refuse_change(self.alloc, fault, reply),
+        if let Err(AllocError) = reply.accept_entry(made.entry()) {
+            drop(made);
+            return Err(AllocError);
+        }
+        match self.book.enter(made, line) {
+            Ok(()) => Ok(()),
+            Err(_) => {
+                reply.clear();
+                reply.refuse(NO_JOURNAL)
+            }
         }
     }
 
@@ -262,85 +267,6 @@ impl<S: Alter> OpenSession<S> {
         match book.plan_room(self.alloc, step) {
             Ok(room) => reply.accept_names(room.names()),
             Err(refusal) => reply.refuse_command(self.alloc, refusal),
-        }
-    }
-
-    fn rollback(&mut self, step: &StepName, line: &str, reply: &mut Reply) -> Result<(), AllocError>
-        requires line { command_of line.now ≡ Some (grammar.rollback step.now) }
-        requires empty { string_bytes reply.old.text ≡ [] }
-        ensures ok { OnOk result (AnswersCommand (log_in self.old) (grammar.rollback step.now) (string_bytes reply.new.text) (log_in self.new)) }
-        ensures err { OnErr result (log_in self.new ≡ log_in self.old) }
-        ensures kept { KeepsLine (λ held. state S.Store held) line.now self.old.journal self.new.journal }
-    {
-        if !self.book.is_open() {
-            return reply.refuse(NO_TABLE);
-        }
-        match self.book.plan_room(self.alloc, step) {
-            Ok(plan) => self.rollback_planned(plan, line, reply),
-            Err(refusal) => reply.refuse_command(self.alloc, refusal),
-        }
-    }
-
-    /// Takes back what was planned. The reply is written first, since the book can't be changed back where memory for it is refused.
-    fn rollback_planned(
-        &mut self,
-        plan: PlanRoom,
-        line: &str,
-        reply: &mut Reply,
-    ) -> Result<(), AllocError>
-        requires open { IsSome self.old.book }
-        requires planned { IfSome self.old.book (λ b. IsPlanned b.log plan) }
-        requires line { command_of line.now ≡ Some (grammar.rollback plan.step) }
-        requires empty { string_bytes reply.old.text ≡ [] }
-        ensures ok { OnOk result (AnswersCommand (log_in self.old) (grammar.rollback plan.step) (string_bytes reply.new.text) (log_in self.new)) }
-        ensures err { OnErr result (log_in self.new ≡ log_in self.old) }
-        ensures kept { KeepsLine (λ held. state S.Store held) line.now self.old.journal self.new.journal }
-    {
-        if let Err(AllocError) = reply.accept_names(plan.names()) {
-            drop(plan);
-            return Err(AllocError);
-        }
-        match self.book.rollback(plan, line) {
-            Ok(_names) => Ok(()),
-            Err(EntryFault::Book(_)) => unreachable!(),
-            Err(EntryFault::Journal(_)) => {
-                reply.clear();
-                reply.refuse(NO_JOURNAL)
-            }
-        }
-    }
-
-    fn settle(&mut self, line: &str, reply: &mut Reply) -> Result<(), AllocError>
-        requires line { command_of line.now ≡ Some grammar.settle }
-        requires empty { string_bytes reply.old.text ≡ [] }
-        ensures ok { OnOk result (AnswersCommand (log_in self.old) grammar.settle (string_bytes reply.new.text) (log_in self.new)) }
-        ensures err { OnErr result (log_in self.new ≡ log_in self.old) }
-        ensures kept { KeepsLine (λ held. state S.Store held) line.now self.old.journal self.new.journal }
-    {
-        if !self.book.is_open() {
-            return reply.refuse(NO_TABLE);
-        }
-        reply.reserve_step()?;
-        match self.book.settle(self.alloc, line) {
-            Ok(()) => reply.accept(),
-            Err(fault) => refuse_change(self.alloc, fault, reply),
-        }
-    }
-
-    fn hold(&mut self, step: &StepName, line: &str, reply: &mut Reply) -> Result<(), AllocError>
-        requires line { command_of line.now ≡ Some (grammar.hold step.now) }
-        requires empty { string_bytes reply.old.text ≡ [] }
-        ensures ok { OnOk result (AnswersCommand (log_in self.old) (grammar.hold step.now) (string_bytes reply.new.text) (log_in self.new)) }
-        ensures err { OnErr result (log_in self.new ≡ log_in self.old) }
-        ensures kept { KeepsLine (λ held. state S.Store held) line.now self.old.journal self.new.journal }
-    {
-        if !self.book.is_open() {
-            return reply.refuse(NO_TABLE);
-        }
-        reply.reserve_step()?;
-        match self.book.hold(self.alloc, step, line) {
-            Ok(count) => reply.accept_count(count),
-            Err(fault) => refuse_change(self.alloc, fault, reply),
         }
     }
 

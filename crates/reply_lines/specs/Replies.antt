@@ -19,6 +19,8 @@ use Rattle.book_log.specs.Readiness.{Readiness}
 use Rattle.book_log.specs.Readiness.TheVariants as phase
 use Rattle.book_log.specs.Kind.{Kind}
 use Rattle.book_log.specs.Kind.TheVariants.{Start, Plain, Call, Fork, Join, Terminate}
+use Rattle.book_log.specs.declared.entry.Entry.{Entry}
+use Rattle.book_log.specs.declared.entry.Entry.TheVariants as entry
 use Rattle.book_log.specs.declared.moved.Moved.{Moved}
 use Rattle.book_log.specs.declared.refusal.Refusal.{Refusal}
 use Rattle.book_log.specs.declared.refusal.Refusal.TheVariants as refusals
@@ -56,6 +58,16 @@ list_reply texts = codes "ok " ++ (with_feed (decimal (length texts)) ++ flat_ma
 
 abbrev pub names_reply : List StepName → List ℕ
 names_reply names = list_reply (map step_text names)
+
+-- a command's entry holds its reply
+abbrev pub entry_reply : Entry → List ℕ
+entry_reply (entry.Define name machine) = done_reply
+entry_reply (entry.Start exec machine input) = step_reply (record { thread = exec; no = 0 })
+entry_reply (entry.Step name kind) = moved_reply (record { name = name; kind = kind })
+entry_reply (entry.Undo name) = done_reply
+entry_reply (entry.Rollback name undone) = names_reply undone
+entry_reply entry.Settle = done_reply
+entry_reply (entry.Hold name count) = count_reply count
 
 -- the state that a thread stands at, and how many moves it made
 abbrev pub place_text : Frame → List ℕ

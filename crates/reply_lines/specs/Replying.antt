@@ -11,11 +11,7 @@ use Rattle.reply_lines.specs.declared.reply.Reply.{Reply}
 abbrev pub AppendsReply : {T : Type 0} → Result T AllocError → Reply → Reply → List ℕ → Type 0
 AppendsReply result old new text = OnOk result (string_bytes new.text ≡ string_bytes old.text ++ text)
 
--- there is room for a reply that names one step
-abbrev pub has_room_for_step : String Global → Type 0
-has_room_for_step s = string_len s + 789 ≤ string_capacity s
-
--- and for the line of one step
+-- there is room for the line of one step
 abbrev pub has_room_for_line : String Global → Type 0
 has_room_for_line s = string_len s + 758 ≤ string_capacity s
 

@@ -7,8 +7,8 @@ ghost use Rattle.item_store.specs.Listing.{items_left};
 ghost use Rattle.json_tree.specs.View.{data_of};
 ghost use Rattle.json_tree.specs.Written.{quoted, text_of};
 ghost use Rattle.step_names.specs.Written.{step_text};
-ghost use Rattle.reply_lines.specs.Replies.{done_reply, step_reply, moved_reply, kind_text, with_feed, count_reply, list_reply, names_reply, place_text, fault_text, frame_reply, refused, refused_by, refused_for_step, refused_for_field, machine_reply, readiness_text, refusal_reply};
-ghost use Rattle.reply_lines.specs.Replying.{AppendsReply, AreLines, has_room_for_step, has_room_for_lines};
+ghost use Rattle.reply_lines.specs.Replies.{done_reply, entry_reply, step_reply, moved_reply, kind_text, with_feed, list_reply, names_reply, place_text, fault_text, frame_reply, refused, refused_by, refused_for_step, refused_for_field, machine_reply, readiness_text, refusal_reply};
+ghost use Rattle.reply_lines.specs.Replying.{AppendsReply, AreLines, has_room_for_lines};
 
 use crate::lines::Lines;
 use attr_values::{Item, write_item};
@@ -16,12 +16,12 @@ use book_log::branches::Readiness;
 use book_log::machines::MachineFault;
 use book_log::steps::Kind;
 use book_log::turns::{Fault, Frame, Phase};
-use book_log::{Moved, Refusal};
+use book_log::{Entry, Refusal};
 use item_store::Items;
 use json_tree::{Json, Text, write_text};
 use std::alloc::{AllocError, Global};
 use step_index::StepRecords;
-use step_names::{LONGEST_STEP, StepName, decimal_len, push_decimal};
+use step_names::{LONGEST_STEP, StepName, ThreadName, decimal_len, push_decimal};
 
 /// A reply that is being written. It keeps the room of the longest one so far.
 #[derive(Drop)]
@@ -53,55 +53,47 @@ impl Reply {
         self.text.as_bytes()
     }
 
-    /// Makes room for any reply that names one step, beforehand.
-    pub fn reserve_step(&mut self) -> Result<(), AllocError>
-        ensures same { string_bytes self.new.text ≡ string_bytes self.old.text }
-        ensures room { OnOk result (has_room_for_step self.new.text) }
-    {
-        self.text.reserve(LONGEST_STEP + 32)
-    }
-
     /// `ok`.
     pub fn accept(&mut self) -> Result<(), AllocError>
         ensures ok { AppendsReply result self.old self.new done_reply }
-        ensures room { has_room_for_step self.old.text → OnErr result ⊥ }
     {
-        self.text.push_str("ok\n")
+        self.word("ok\n")
     }
 
-    /// `ok` and a step.
-    pub fn accept_step(&mut self, step: &StepName) -> Result<(), AllocError>
-        ensures ok { AppendsReply result self.old self.new (step_reply step.now) }
-        ensures room { has_room_for_step self.old.text → OnErr result ⊥ }
+    /// The reply of an accepted command, which its entry holds.
+    pub fn accept_entry(&mut self, entry: &Entry) -> Result<(), AllocError>
+        ensures ok { AppendsReply result self.old self.new (entry_reply entry.now) }
     {
-        self.text.reserve(step.text_len() + 4)?;
-        self.text.push_str("ok ")?;
-        step.write_to(&mut self.text)?;
-        self.text.push_str("\n")
+        match entry {
+            Entry::Define { .. } => self.accept(),
+            Entry::Start { exec, .. } => self.accept_start(exec),
+            Entry::Step { name, kind } => self.accept_moved(name, *kind),
+            Entry::Undo { .. } => self.accept(),
+            Entry::Rollback { undone, .. } => self.accept_names(undone.names()),
+            Entry::Settle => self.accept(),
+            Entry::Hold { count, .. } => self.count(*count as u64),
+        }
+    }
+
+    /// `ok` and the first step of an execution.
+    fn accept_start(&mut self, exec: &ThreadName) -> Result<(), AllocError>
+        ensures ok { AppendsReply result self.old self.new (step_reply (record { thread = exec.now; no = 0 })) }
+    {
+        self.word("ok ")?;
+        exec.write_to(&mut self.text)?;
+        self.word("#")?;
+        self.number(0)?;
+        self.word("\n")
     }
 
     /// `ok`, a step and its kind.
-    pub fn accept_moved(&mut self, moved: &Moved) -> Result<(), AllocError>
-        ensures ok { AppendsReply result self.old self.new (moved_reply moved.now) }
-        ensures room { has_room_for_step self.old.text → OnErr result ⊥ }
+    fn accept_moved(&mut self, name: &StepName, kind: Kind) -> Result<(), AllocError>
+        ensures ok { AppendsReply result self.old self.new (moved_reply (record { name = name.now; kind = kind })) }
     {
-        self.text.reserve(moved.name.text_len() + 14)?;
-        self.text.push_str("ok ")?;
-        moved.name.write_to(&mut self.text)?;
-        self.text.push_str(kind_word(moved.kind))?;
-        self.text.push_str("\n")
-    }
-
-    /// `ok` and a number of steps.
-    #[tactic(auto, using(crate::proofs::Counts::few_digits))]
-    pub fn accept_count(&mut self, count: usize) -> Result<(), AllocError>
-        ensures ok { AppendsReply result self.old self.new (count_reply count) }
-        ensures room { has_room_for_step self.old.text → OnErr result ⊥ }
-    {
-        self.text.reserve(LONGEST_COUNT + 4)?;
-        self.text.push_str("ok ")?;
-        push_count(&mut self.text, count);
-        self.text.push_str("\n")
+        self.word("ok ")?;
+        name.write_to(&mut self.text)?;
+        self.word(kind_word(kind))?;
+        self.word("\n")
     }
 
     /// `ok`, the number of steps, and a line for each.
@@ -350,26 +342,8 @@ impl Reply {
     }
 }
 
-/// The most digits of a count.
-const LONGEST_COUNT: usize = 20;
-
-/// Puts a count's digits at the end, in room that is there.
-#[tactic(auto, using(crate::proofs::Counts::more_digits, crate::proofs::Counts::only_digit))]
-fn push_count(out: &mut String, count: usize)
-    requires { string_len out.old + length (decimal count) ≤ string_capacity out.old }
-    ensures bytes { string_bytes out.new ≡ string_bytes out.old ++ decimal count }
-    ensures len { string_len out.new ≡ string_len out.old + length (decimal count) }
-    ensures capacity { string_capacity out.old ≤ string_capacity out.new }
-{
-    if count >= 10 {
-        push_count(out, count / 10);
-    }
-    push_decimal(out, (count % 10) as u32);
-}
-
 fn kind_word(kind: Kind) -> &'static str
-    ensures text { result.now ≡ kind_text kind }
-    ensures bound { length result.now ≤ 10 }
+    ensures { result.now ≡ kind_text kind }
 {
     match kind {
         Kind::Start => " start",

@@ -1,7 +1,6 @@
-use Rattle.std.proofs.Common.{◌≡◌, Some, Ok, sym, subst}
+use Rattle.std.proofs.Common.{Some, sym, subst}
 use Rattle.sqlite.specs.Held.{state}
 use Rattle.book_journal.specs.Entries.{texts}
-use Rattle.journaled_book.specs.Changes.{AppendsAll}
 use Rattle.journaled_book.specs.Journaled.{GoesOnBy, Journaled, log_of}
 use Rattle.journaled_book.proofs.Kept.{all_added, all_refused}
 use Rattle.journaled_book.proofs.away.AwayBook.append.Goals as goal
