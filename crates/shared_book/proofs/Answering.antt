@@ -16,7 +16,7 @@ use Rattle.book_log.specs.declared.moved.Moved.{Moved}
 use Rattle.book_log.specs.declared.refusal.Refusal.{Refusal}
 use Rattle.book_log.specs.declared.refusal.Refusal.TheVariants.{Memory}
 use Rattle.book_log.proofs.LegalRuns.{accepted_is_legal}
-use Rattle.book_events.specs.Commits.{AnswersCommit, IsFresh}
+use Rattle.book_events.specs.Commits.{AnswersCommit}
 use Rattle.book_events.specs.declared.commits.CommitRefusal.{CommitRefusal}
 use Rattle.book_events.specs.declared.commits.CommitRefusal.TheVariants as turn
 use Rattle.book_events.specs.Planned.{IsPlanned, WasPlanned}
@@ -26,53 +26,49 @@ use Rattle.book_events.specs.Tickets.{AnswersTicket, IsMoving}
 use Rattle.book_events.specs.declared.room.PlanRoom.{PlanRoom}
 use Rattle.book_events.specs.declared.ticket.Ticket.{Ticket}
 use Rattle.book_events.proofs.Answered.{given_ok, memory_alone, ok_gives, start_named, step_is_next}
-use Rattle.shared_book.specs.Numbers.{IsForeign, IsKnown, last_of}
+use Rattle.shared_book.specs.Numbers.{IsKnown, last_of}
 use Rattle.shared_book.specs.Away.{Away, is_thread_among}
-use Rattle.shared_book.specs.Views.{PassView, ExtendsLog, IsCounted}
-use Rattle.shared_book.specs.Calls.{GivesAfter, GivesReceipt, IsCause, IsNotAdmitted, IsRefusedFor, MaySee}
+use Rattle.shared_book.specs.Views.{DeskView, PassView, ExtendsLog, IsCounted}
+use Rattle.shared_book.specs.Calls.{GivesAfter, IsCause, IsCauseAt, IsNotAdmitted, IsRefusedFor, MaySee}
 use Rattle.shared_book.specs.Claims.{IsClaim, IsClaimable, thread_of}
-use Rattle.shared_book.specs.Commits.{GivesTurn, IsNotTaken, IsNotTakenAt, shared_refusal}
+use Rattle.shared_book.specs.Commits.{IsNotTaken, IsNotTakenAt, shared_refusal}
 use Rattle.shared_book.specs.declared.receipt.Receipt.{Receipt}
 use Rattle.shared_book.specs.declared.refusal.SharedRefusal.{SharedRefusal}
 use Rattle.shared_book.specs.declared.refusal.SharedRefusal.TheVariants.{Refused, ForeignPass}
 
+-- ---- a pass and the desk, by their fields
+
+module _ (begun log : Log) (first : ℕ) (claims : Away) (d : DeskView) (seen parts : ℕ) (was : List Receipt) (had : PassView)
+    (d_is : record { log = log; first = first; claims = claims } ≡ d) (had_is : record { seen = seen; receipts = was; parts = parts } ≡ had)
+    (goes : ExtendsLog begun d.log) (legal : IsLegal d.log) (known : IsKnown d.log.entries seen (last_of was)) where
+  -- a receipt of an entry that is accepted after the log
+  pub given : (e one : Entry) (n seen' parts' : ℕ) (mid items : List Receipt) (r : Receipt) → n ≡ length d.log.entries + 1 → IsAccepted log e → one ≡ e → mid ≡ was
+      → items ≡ mid ++ r ∷ [] → r ≡ record { number = n; entry = one } → seen' ≡ n → parts' ≡ parts → GivesAfter begun d.log had (record { seen = seen'; receipts = items; parts = parts' }) r
+  given e one n seen' parts' mid items r number accepted one_is mid_is items_is r_is seen_is parts_is =
+      let accepted_now : IsAccepted d.log e = subst (λ (x : DeskView). IsAccepted x.log e) d_is accepted in
+      let entry : r.entry ≡ e = ap (λ (x : Receipt). x.entry) r_is ∙ one_is in
+      let numbered : r.number ≡ n = ap (λ (x : Receipt). x.number) r_is in (
+        record {
+          before = d.log;
+          goes = goes;
+          legal = subst (λ (x : Entry). IsLegal (appended d.log x)) (sym entry) (accepted_is_legal d.log e legal accepted_now);
+          known = subst (λ (p : PassView). IsKnown d.log.entries p.seen (last_of p.receipts)) had_is known;
+          number = numbered ∙ number;
+          now = let like : PassView → PassView = λ p. record { seen = r.number; receipts = p.receipts ++ r ∷ []; parts = p.parts } in
+              rw (seen_is ∙ sym numbered, parts_is, items_is, mid_is) (ap like had_is);
+        },
+        refl,
+      )
+
+  pub may_see : MaySee begun had d.log
+  may_see = record { goes = goes; legal = legal; known = subst (λ (p : PassView). IsKnown d.log.entries p.seen (last_of p.receipts)) had_is known }
+
+  -- as the call is answered, or for memory
+  pub refused : {T : Type 0} (answer : Log → Result T Refusal) (e : Refusal) → IsCauseAt (answer log) e → IsCause begun answer had e
+  refused answer e (inl memory) = inl memory
+  refused answer e (inr is) = inr (d.log, may_see, ap (λ (x : DeskView). answer x.log) (sym d_is) ∙ is)
+
 -- ---- accepted
-
--- a receipt of an entry that is accepted after this log: one that the pass keeps, and one that its caller is given
-pub given : (begun before : Log) (entries : List Entry) (had : PassView) (e kept told : Entry) (n : ℕ) (items : List Receipt)
-    → ExtendsLog begun before → entries ≡ before.entries → IsLegal before → IsAccepted before e
-    → IsKnown entries had.seen (last_of had.receipts) → n ≡ length entries + 1
-    → kept ≡ e → told ≡ e → items ≡ had.receipts ++ record { number = n; entry = kept } ∷ []
-    → GivesReceipt begun had (record { seen = n; receipts = items; parts = had.parts }) (record { number = n; entry = told })
-given begun before entries had e kept told n items goes is legal may known number kept_is told_is now =
-    record {
-      before = before;
-      goes = goes;
-      legal = subst (λ (x : Entry). IsLegal (appended before x)) (sym told_is) (accepted_is_legal before e legal may);
-      known = subst (λ (l : List Entry). IsKnown l had.seen (last_of had.receipts)) is known;
-      number = number ∙ ap (λ (l : List Entry). length l + 1) is;
-      now = ap (λ (l : List Receipt). record { seen = n; receipts = l; parts = had.parts }) (now ∙ ap (λ (x : Entry). had.receipts ++ record { number = n; entry = x } ∷ []) (kept_is ∙ sym told_is));
-    }
-
--- and the log before it is this one
-pub given_after : (begun before : Log) (entries : List Entry) (had : PassView) (e kept told : Entry) (n : ℕ) (items : List Receipt)
-    → ExtendsLog begun before → entries ≡ before.entries → IsLegal before → IsAccepted before e
-    → IsKnown entries had.seen (last_of had.receipts) → n ≡ length entries + 1
-    → kept ≡ e → told ≡ e → items ≡ had.receipts ++ record { number = n; entry = kept } ∷ []
-    → GivesAfter begun before had (record { seen = n; receipts = items; parts = had.parts }) (record { number = n; entry = told })
-unfolding given
-given_after begun before entries had e kept told n items goes is legal may known number kept_is told_is now =
-    (given begun before entries had e kept told n items goes is legal may known number kept_is told_is now, refl)
-
--- the same of a turn that was still its thread's
-pub given_turn : (begun before : Log) (entries : List Entry) (had : PassView) (e kept told : Entry) (n : ℕ) (items : List Receipt) (t : Thread) (p : Prepared)
-    → ExtendsLog begun before → entries ≡ before.entries → IsLegal before → IsAccepted before e
-    → IsKnown entries had.seen (last_of had.receipts) → n ≡ length entries + 1
-    → kept ≡ e → told ≡ e → items ≡ had.receipts ++ record { number = n; entry = kept } ∷ [] → IsFresh before t p
-    → GivesTurn begun t p had (record { seen = n; receipts = items; parts = had.parts }) (record { number = n; entry = told })
-unfolding given
-given_turn begun before entries had e kept told n items t p goes is legal may known number kept_is told_is now fresh =
-    (given begun before entries had e kept told n items goes is legal may known number kept_is told_is now, fresh)
 
 pub start_accepted : (log : Log) (exec : Thread) (machine : List ℕ) (input : Json) (name : StepName) → Gives (Ok name) (start_answer log exec machine) → exec.path ≡ [] → depth (data_of input) ≤ most_levels → IsAccepted log (Start exec machine input)
 start_accepted log exec machine input name gives root shallow = (start_named log exec machine name (given_ok (start_answer log exec machine) name gives), root, shallow)
@@ -125,20 +121,19 @@ counted_more begun log now first total all e counted is more =
 
 -- ---- refused
 
-pub cause : {T : Type 0} (begun : Log) (answer : Log → Result T Refusal) (had : PassView) (at : Log) (e : Refusal) (result : Result T Refusal) → MaySee begun had at → answer at ≡ result → Gives (Err e) result → IsCause begun answer had e
-cause begun answer had at e (Ok x) may is (inl h) = cc
-cause begun answer had at e (Ok x) may is (inr h) = inl cc
-cause begun answer had at e (Err f) may is h = inr (at, may, is ∙ sym h)
+pub cause_at : {T : Type 0} (answer : Result T Refusal) (e : Refusal) → Gives (Err e) answer → IsCauseAt answer e
+cause_at (Ok x) e (inl h) = cc
+cause_at (Ok x) e (inr h) = inl cc
+cause_at (Err f) e h = inr (sym h)
 
 -- also where want of memory may stand for any answer
-pub lacking_cause : {T : Type 0} (lacks : Type 0) (begun : Log) (answer : Log → Result T Refusal) (had : PassView) (at : Log) (e : Refusal) (result : Result T Refusal) → MaySee begun had at → answer at ≡ result → GivesOr lacks (Err e) result → IsCause begun answer had e
-lacking_cause lacks begun answer had at e result may is (inl h) = cause begun answer had at e result may is h
-lacking_cause lacks begun answer had at e result may is (inr h) = inl cc
+pub lacking_cause_at : {T : Type 0} (lacks : Type 0) (answer : Result T Refusal) (e : Refusal) → GivesOr lacks (Err e) answer → IsCauseAt answer e
+lacking_cause_at lacks answer e (inl h) = cause_at answer e h
+lacking_cause_at lacks answer e (inr h) = inl cc
 
-pub not_admitted : (begun at : Log) (entries : List Entry) (had : PassView) (Cause : Refusal → Type 0) (e : SharedRefusal) → ExtendsLog begun at → entries ≡ at.entries → IsLegal at → IsNotAdmitted entries had.seen (last_of had.receipts) e → Cause Memory → IsRefusedFor begun had Cause e
-not_admitted begun at entries had Cause (Refused e) goes is legal not memory = subst Cause (sym not) memory
-not_admitted begun at entries had Cause (ForeignPass number there) goes is legal not memory =
-    (at, goes, legal, subst (λ (l : List Entry). IsForeign l had.seen (last_of had.receipts) number there) is not)
+pub not_admitted : (begun at : Log) (had : PassView) (Cause : Refusal → Type 0) (e : SharedRefusal) → ExtendsLog begun at → IsLegal at → IsNotAdmitted at.entries had.seen (last_of had.receipts) e → Cause Memory → IsRefusedFor begun had Cause e
+not_admitted begun at had Cause (Refused e) goes legal not memory = subst Cause (sym not) memory
+not_admitted begun at had Cause (ForeignPass number there) goes legal not memory = (at, goes, legal, not)
 
 -- of a turn
 pub turn_not_taken : (begun at : Log) (had : PassView) (t : Thread) (p : Prepared) (r : CommitRefusal) → MaySee begun had at → AnswersCommit at t p (Err r) → IsNotTaken begun t p had (shared_refusal r)

@@ -10,7 +10,7 @@ use Rattle.book_log.specs.declared.entry.Entry.TheVariants.{Undo}
 use Rattle.book_log.specs.declared.refusal.Refusal.{Refusal}
 use Rattle.book_log.proofs.HoldSaid.{nothing_left}
 use Rattle.book_log.proofs.Holding.{holds_stand}
-use Rattle.shared_book.specs.Calls.{GivesAfter, GivesLatest, GivesLatestAt, IsCauseAt, IsLatestCause, IsLatestCauseAt, IsLatestUndone, IsRefused, IsRefusedAt, IsRefusedFor}
+use Rattle.shared_book.specs.Calls.{GivesAfter, GivesLatestAt, IsCauseAt, IsLatestCause, IsLatestCauseAt, IsLatestUndone, IsRefused, IsRefusedAt, IsRefusedFor}
 use Rattle.shared_book.specs.Views.{PassView}
 use Rattle.shared_book.specs.declared.receipt.Receipt.{Receipt}
 use Rattle.shared_book.specs.declared.refusal.SharedRefusal.{SharedRefusal}
@@ -67,12 +67,7 @@ nothing_held log legal none = held_where log (step_on_hold log) legal none refl
 -- ---- the receipt
 
 pub gives_latest : (begun log : Log) (had has : PassView) (name : StepName) (result : Result Receipt SharedRefusal) → IsLatestLeft log (Some name)
-    → IfOk result (GivesAfter begun log had has) → IfOk result (λ r. r.entry ≡ Undo name) → IfOk result (GivesLatest begun had has)
-gives_latest begun log had has name (Ok r) latest (given, there) entry =
-    (given, subst (λ (s : Log). IsLatestUndone s r.entry) (sym there) (subst (IsLatestUndone log) (sym entry) latest))
-gives_latest begun log had has name (Err e) latest h entry = tt
-
-pub gives_latest_at : (begun log : Log) (had has : PassView) (name : StepName) (result : Result Receipt SharedRefusal) → IsLatestLeft log (Some name)
     → IfOk result (GivesAfter begun log had has) → IfOk result (λ r. r.entry ≡ Undo name) → IfOk result (GivesLatestAt begun log had has)
-gives_latest_at begun log had has name (Ok r) latest given entry = (given, subst (IsLatestUndone log) (sym entry) latest)
-gives_latest_at begun log had has name (Err e) latest h entry = tt
+gives_latest begun log had has name (Ok r) latest (given, there) entry =
+    ((given, subst (λ (s : Log). IsLatestUndone s r.entry) (sym there) (subst (IsLatestUndone log) (sym entry) latest)), there)
+gives_latest begun log had has name (Err e) latest h entry = tt

@@ -5,3 +5,4 @@ pub mod Passing
 pub mod HeldBack
 pub mod Latest
 pub mod Sought
+pub mod Entered

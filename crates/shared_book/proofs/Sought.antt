@@ -1,22 +1,16 @@
 -- Where a thread is looked for that can be claimed, no execution is left out that has one.
-use Rattle.std.proofs.Common.{◌≡◌, ℕ, Bool, true, false, ◌&&◌, not, cond, Ordering, Less, is_eq, List, [], ◌∷◌, refl, ap, sym, subst, ◌∙◌, Option, None, Some, Result, Ok, Err, inl, inr}
-use Rattle.std.proofs.Math.Path.{fun_ext}
-use Rattle.std.specs.Prelude.{◌⊎◌, OnOk, is_err}
+use Rattle.std.proofs.Common.{◌≡◌, ℕ, Bool, true, false, ◌&&◌, not, cond, List, refl, ap, sym, subst, ◌∙◌, Option, None, Some, Result, Ok, Err}
+use Rattle.std.specs.Prelude.{OnOk, is_err}
 use Rattle.std.specs.BTreeMap.{is_at}
-use Rattle.std.specs.Cmp.Lexicographic.{slice_cmp}
-use Rattle.std.specs.Ordering.{nat_cmp}
 use Rattle.std.specs.Str.{bytes_eq}
-use Rattle.std.proofs.lemmas.Cmp.{nat_list_cmp_total}
-use Rattle.std.proofs.lemmas.Map.Text.{is_eq-slice_cmp}
 use Rattle.std.proofs.lemmas.Slice.Eq.{bytes_eq-Decides}
-use Rattle.book_log.specs.Frame.{Frame}
 use Rattle.book_log.specs.Laws.{LeavesOthers}
 use Rattle.book_log.specs.Log.{Log, world_of}
 use Rattle.book_events.specs.Cursors.{GoesBack, first_of_all}
 use Rattle.book_events.specs.First.{IsFirstReady}
 use Rattle.book_events.proofs.Cursors.{none_at_first, none_left_out, none_up_to}
 use Rattle.step_names.specs.Order.{thread_cmp}
-use Rattle.step_names.specs.Thread.{Thread, IsThread}
+use Rattle.step_names.specs.Thread.{Thread}
 use Rattle.step_names.proofs.OrderLaws.{thread_same}
 use Rattle.shared_book.specs.Away.{Away, is_thread_among}
 use Rattle.shared_book.specs.Seeking.{IsSought, NoneBefore}

@@ -123,7 +123,7 @@ GivesLatest begun had has r = (given : GivesReceipt begun had has r) × IsLatest
 
 -- so, and the log before it is this one
 abbrev pub GivesLatestAt : Log → Log → PassView → PassView → Receipt → Type 0
-GivesLatestAt begun at had has r = GivesAfter begun at had has r × IsLatestUndone at r.entry
+GivesLatestAt begun at had has r = (latest : GivesLatest begun had has r) × (latest.0.before ≡ at)
 
 -- for memory, or since nothing is held at this log
 abbrev pub IsLatestCauseAt : Log → Refusal → Type 0

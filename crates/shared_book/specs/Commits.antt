@@ -9,7 +9,7 @@ use Rattle.book_events.specs.Commits.{AnswersCommit, IsFresh}
 use Rattle.book_events.specs.declared.commits.CommitRefusal.{CommitRefusal}
 use Rattle.book_events.specs.declared.commits.CommitRefusal.TheVariants as book
 use Rattle.shared_book.specs.Away.{claim_ended, passed_by}
-use Rattle.shared_book.specs.Calls.{GivesAfter, GivesReceipt, IsRefusedAt, IsRefusedFor, MaySee}
+use Rattle.shared_book.specs.Calls.{GivesReceipt, IsRefusedAt, IsRefusedFor, MaySee}
 use Rattle.shared_book.specs.Views.{DeskView, PassView, with_claims}
 use Rattle.shared_book.specs.declared.receipt.Receipt.{Receipt}
 use Rattle.shared_book.specs.declared.refusal.SharedCommitRefusal.{SharedCommitRefusal}
@@ -22,7 +22,7 @@ GivesTurn begun t p had has r = (given : GivesReceipt begun had has r) × IsFres
 
 -- so, and this is the log before it
 abbrev pub GivesTurnAt : Log → Log → Thread → Prepared → PassView → PassView → Receipt → Type 0
-GivesTurnAt begun at t p had has r = GivesAfter begun at had has r × IsFresh at t p
+GivesTurnAt begun at t p had has r = (turn : GivesTurn begun t p had has r) × (turn.0.before ≡ at)
 
 -- for memory, or as the book refuses a turn that is its thread's at a log that the pass can have seen
 abbrev pub IsTurnCause : Log → Thread → Prepared → PassView → Refusal → Type 0

@@ -6,3 +6,4 @@ pub mod Claims
 pub mod Commits
 pub mod Closed
 pub mod Seeking
+pub mod Entering

@@ -1,8 +1,8 @@
 -- What contracts see of a pass and of what lies under the lock.
 use Rattle.std.specs.Prelude.{◌≡◌, ℕ, ◌+◌, ◌-◌, ◌/◌, List, [], ◌++◌, length}
-use Rattle.book_log.specs.Log.{Log, appended}
+use Rattle.book_log.specs.Log.{Log}
 use Rattle.book_log.specs.declared.entry.Entry.{Entry}
-use Rattle.shared_book.specs.Away.{Away, claimed_alone}
+use Rattle.shared_book.specs.Away.{Away}
 use Rattle.shared_book.specs.declared.receipt.Receipt.{Receipt}
 
 -- how many entries were seen, the receipts, and the parts of the right to call
@@ -38,10 +38,3 @@ pub record IsCounted (begun log : Log) (first total : ℕ) : Type 0 where
 
 abbrev pub with_claims : DeskView → Away → DeskView
 with_claims d claims = record { log = d.log; first = d.first; claims = claims }
-
-abbrev pub desk_with_entry : DeskView → Entry → DeskView
-desk_with_entry d e = record { log = appended d.log e; first = d.first; claims = d.claims }
-
--- an entry that takes steps back, after which none is passed by
-abbrev pub with_undoing : DeskView → Entry → DeskView
-with_undoing d e = with_claims (desk_with_entry d e) (claimed_alone d.claims)

@@ -2,11 +2,18 @@
 ghost use Rattle.std.specs.Prelude.{◌≡◌, ◌≢◌, true, false, ◌+◌, ◌<◌, length, vec_len, vec_capacity, IfOk, IfErr, OnOk, MatchResult};
 ghost use Rattle.std.specs.Option.{option_copied};
 ghost use Rattle.shared_book.specs.Numbers.{IsForeign, IsKnown, entry_at, last_of};
-ghost use Rattle.shared_book.specs.Calls.{IsNotAdmitted, IsTurnedAway};
+ghost use Rattle.book_log.specs.Legal.{IsLegal};
+ghost use Rattle.book_log.specs.declared.refusal.Refusal.TheVariants.{Memory};
+ghost use Rattle.shared_book.specs.Calls.{IsNotAdmitted, IsRefusedAt, IsRefusedFor, IsTurnedAway, MaySee};
+ghost use Rattle.shared_book.specs.Views.{ExtendsLog};
 
 use crate::copies::copied;
+use crate::desk::Desk;
+use crate::pass::{Kept, Pass};
 use crate::receipt::Receipt;
 use crate::refusal::SharedRefusal;
+use crate::sharing::Sharing;
+use book_events::Events;
 use book_log::{Entry, Refusal, equality_is_of_entries};
 use std::alloc::AllocError;
 
@@ -75,26 +82,39 @@ pub fn known<'a>(
     Ok(())
 }
 
-/// Lets a pass make a call: the log is one that it can have seen, and there is room for a receipt. Answers the number of the next
-/// entry.
-pub(crate) fn admit(
-    entries: &[Entry],
-    seen: usize,
-    receipts: &mut Vec<Receipt>,
-) -> Result<usize, SharedRefusal>
-    ensures number { IfOk result (λ n. n ≡ length entries.now + 1) }
-    ensures known { OnOk result (IsKnown entries.now seen (last_of receipts.old.items)) }
-    ensures room { OnOk result (vec_len receipts.new < vec_capacity receipts.new) }
-    ensures same { receipts.new.items ≡ receipts.old.items }
-    ensures err { IfErr result (IsNotAdmitted entries.now seen (last_of receipts.old.items)) }
-{
-    if let Err(foreign) = known(entries, seen, receipts.last()) {
-        return Err(turned_away(foreign));
+impl<B: Events, L: Sharing> Desk<B, L> {
+    /// Whether the log is one that a pass can have seen. Answers how many entries it has.
+    pub(crate) fn know(&self, pass: &Pass<L>) -> Result<usize, SharedRefusal>
+        ensures entries { IfOk result (λ n. n ≡ length self.now.log.entries) }
+        ensures may { OnOk result (MaySee L.begun pass.now self.now.log) }
+        ensures legal { IsLegal self.now.log }
+        ensures err { IfErr result (λ e. IsRefusedFor L.begun pass.now (λ cause. cause ≡ Memory) e × IsRefusedAt self.now.log pass.now (λ cause. cause ≡ Memory) e) }
+    {
+        let (_, entries) = self.book.entries();
+        match known(entries, pass.seen(), pass.receipts().last()) {
+            Ok(()) => Ok(entries.len()),
+            Err(foreign) => Err(turned_away(foreign)),
+        }
     }
-    if receipts.reserve(1).is_err() {
-        return Err(SharedRefusal::Refused(Refusal::Memory));
+
+    /// Lets a pass make a call, with room for its receipt. Answers the number of the next entry.
+    pub(crate) fn admit(&self, kept: &mut Kept<L>) -> Result<usize, SharedRefusal>
+        ensures number { IfOk result (λ n. n ≡ length self.now.log.entries + 1) }
+        ensures goes { ExtendsLog L.begun self.now.log }
+        ensures legal { IsLegal self.now.log }
+        ensures known { OnOk result (IsKnown self.now.log.entries kept.old.seen (last_of kept.old.receipts.items)) }
+        ensures room { OnOk result (vec_len kept.new.receipts < vec_capacity kept.new.receipts) }
+        ensures items { kept.new.receipts.items ≡ kept.old.receipts.items }
+        ensures same { (kept.new.seen ≡ kept.old.seen) × (kept.new.parts ≡ kept.old.parts) × (kept.new.share ≡ kept.old.share) }
+        ensures err { IfErr result (IsNotAdmitted self.now.log.entries kept.old.seen (last_of kept.old.receipts.items)) }
+    {
+        let (_, entries) = self.book.entries();
+        if let Err(foreign) = known(entries, kept.seen, kept.receipts.last()) {
+            return Err(turned_away(foreign));
+        }
+        kept.receipts.reserve(1)?;
+        Ok(entries.len() + 1)
     }
-    Ok(entries.len() + 1)
 }
 
 /// The refusal of a foreign pass. Takes memory for a copy of the entry that stands there.

@@ -3,24 +3,23 @@
 ghost use Rattle.std.specs.Prelude.{◌≡◌, ◌+◌, ◌<◌, ◌≤◌, ◌∷◌, ◌++◌, [], true, vec_len, vec_capacity, IfOk, IfErr};
 ghost use Rattle.json_tree.specs.Data.{depth, most_levels};
 ghost use Rattle.json_tree.specs.View.{data_of};
+ghost use Rattle.book_events.specs.Cursors.{cursor_place};
 ghost use Rattle.book_log.specs.Answers.{hold_answer, plan_answer, start_answer, step_answer, undo_answer};
 ghost use Rattle.shared_book.specs.Away.{WasRefused};
-ghost use Rattle.shared_book.specs.Calls.{GivesAfter, GivesLatest, GivesLatestAt, GivesReceipt, IsCauseAt, IsHoldEntryOf, IsLatestCause, IsLatestCauseAt, IsRefused, IsRefusedAt, IsRefusedFor, IsRollbackOf, IsStepOf, after_refusal, is_held};
-ghost use Rattle.shared_book.specs.Views.{desk_with_entry, with_undoing};
+ghost use Rattle.shared_book.specs.Calls.{GivesAfter, GivesLatestAt, IsCauseAt, IsHoldEntryOf, IsLatestCause, IsLatestCauseAt, IsRefused, IsRefusedAt, IsRefusedFor, IsRollbackOf, IsStepOf, after_refusal, is_held};
+ghost use Rattle.shared_book.specs.Entering.{GoesBackFor, claims_after, desk_after};
 
-use crate::admitting::{admit, known, turned_away};
 use crate::copies::copy_names;
-use crate::desk::Desk;
-use crate::pass::Pass;
-use crate::receipt::Receipt;
+use crate::desk::{Desk, Side};
+use crate::pass::{Kept, Pass};
+use crate::receipt::{Receipt, Twice};
 use crate::refusal::SharedRefusal;
 use crate::sharing::Sharing;
 use book_events::Events;
 use book_log::{Entry, Moved, Refusal};
 use json_tree::{Json, Text};
 use std::alloc::{AllocError, Global};
-use std::sync::ledger::{Book, Ledger, Share};
-use step_names::{NameRoom, StepName, ThreadName};
+use step_names::{StepName, ThreadName};
 
 impl<B: Events, L: Sharing> Desk<B, L> {
     pub(crate) fn start(
@@ -33,41 +32,28 @@ impl<B: Events, L: Sharing> Desk<B, L> {
     ) -> Result<Receipt, SharedRefusal>
         requires execution { exec.now.path ≡ [] }
         requires shallow { depth (data_of input) ≤ most_levels }
-        ensures receipt { IfOk result (GivesReceipt L.begun pass.old pass.new) }
         ensures after { IfOk result (GivesAfter L.begun self.old.log pass.old pass.new) }
         ensures entry { IfOk result (λ r. r.entry ≡ Entry.Start exec.now machine.now input) }
-        ensures entries { IfOk result (λ r. self.new ≡ desk_with_entry self.old r.entry) }
+        ensures entries { IfOk result (λ r. self.new ≡ desk_after self.old r.entry) }
         ensures err { IfErr result (λ e. IsRefused L.begun (λ at. start_answer at exec.now machine.now) pass.old e × (pass.new ≡ pass.old) × (self.new ≡ self.old)) }
         ensures cause { IfErr result (IsRefusedAt self.old.log pass.old (IsCauseAt (start_answer self.old.log exec.now machine.now))) }
     {
-        let (_, entries) = self.book.entries();
-        let number = match admit(entries, pass.seen, &mut pass.receipts) {
+        let number = match self.admit(&mut pass.kept) {
             Ok(number) => number,
             Err(refusal) => {
                 drop(input);
                 return Err(refusal);
             }
         };
-        let Ok((entry, told)) = start_entries(alloc, exec, machine, &input) else {
+        let Ok(entry) = start_entry(exec, machine, &input) else {
             drop(input);
             return Err(SharedRefusal::Refused(Refusal::Memory));
         };
-        match self.book.start(alloc, exec, machine, input) {
-            Ok(name) => drop(name),
-            Err(refusal) => {
-                drop(entry);
-                drop(told);
-                return Err(SharedRefusal::Refused(refusal));
-            }
+        if let Err(refusal) = self.book.start(alloc, exec, machine, input) {
+            drop(entry);
+            return Err(SharedRefusal::Refused(refusal));
         }
-        let kept = Receipt { number, entry };
-        hand_out(&mut self.calls, &mut pass.share, &mut pass.receipts, kept);
-        self.cursor.go_back(exec.exec());
-        pass.seen = number;
-        Ok(Receipt {
-            number,
-            entry: told,
-        })
+        Ok(finish(&mut self.side, &mut pass.kept, number, entry))
     }
 
     pub(crate) fn step(
@@ -76,20 +62,17 @@ impl<B: Events, L: Sharing> Desk<B, L> {
         pass: &mut Pass<L>,
         thread: &ThreadName,
     ) -> Result<Receipt, SharedRefusal>
-        ensures receipt { IfOk result (GivesReceipt L.begun pass.old pass.new) }
         ensures after { IfOk result (GivesAfter L.begun self.old.log pass.old pass.new) }
         ensures entry { IfOk result (λ r. IsStepOf thread.now r.entry) }
-        ensures entries { IfOk result (λ r. self.new ≡ desk_with_entry self.old r.entry) }
+        ensures entries { IfOk result (λ r. self.new ≡ desk_after self.old r.entry) }
         ensures err { IfErr result (λ e. IsRefused L.begun (λ at. step_answer at thread.now) pass.old e × (pass.new ≡ pass.old) × (self.new ≡ after_refusal self.old thread.now e)) }
         ensures cause { IfErr result (IsRefusedAt self.old.log pass.old (IsCauseAt (step_answer self.old.log thread.now))) }
     {
-        match self.take_step(alloc, pass, thread) {
-            Ok(receipt) => Ok(receipt),
-            Err(refusal) => {
-                self.note_refusal(thread, &refusal);
-                Err(refusal)
-            }
+        let answer = self.take_step(alloc, pass, thread);
+        if let Err(refusal) = &answer {
+            self.note_refusal(thread, refusal);
         }
+        answer
     }
 
     fn take_step(
@@ -98,36 +81,24 @@ impl<B: Events, L: Sharing> Desk<B, L> {
         pass: &mut Pass<L>,
         thread: &ThreadName,
     ) -> Result<Receipt, SharedRefusal>
-        ensures receipt { IfOk result (GivesReceipt L.begun pass.old pass.new) }
         ensures after { IfOk result (GivesAfter L.begun self.old.log pass.old pass.new) }
         ensures entry { IfOk result (λ r. IsStepOf thread.now r.entry) }
-        ensures entries { IfOk result (λ r. self.new ≡ desk_with_entry self.old r.entry) }
+        ensures entries { IfOk result (λ r. self.new ≡ desk_after self.old r.entry) }
         ensures err { IfErr result (λ e. IsRefused L.begun (λ at. step_answer at thread.now) pass.old e × (pass.new ≡ pass.old) × (self.new ≡ self.old)) }
         ensures cause { IfErr result (IsRefusedAt self.old.log pass.old (IsCauseAt (step_answer self.old.log thread.now))) }
         ensures held { IfErr result (λ e. is_held e ≡ true → WasRefused self.old.log thread.now) }
     {
-        let (_, entries) = self.book.entries();
-        let number = admit(entries, pass.seen, &mut pass.receipts)?;
-        let Ok(spare) = NameRoom::new(alloc) else {
-            return Err(SharedRefusal::Refused(Refusal::Memory));
-        };
-        let Moved { name, kind } = match self.book.step(alloc, thread) {
+        let number = self.admit(&mut pass.kept)?;
+        let copy = thread.copy()?;
+        let moved = match self.book.step(alloc, thread) {
             Ok(moved) => moved,
             Err(refusal) => {
-                drop(spare);
+                drop(copy);
                 return Err(SharedRefusal::Refused(refusal));
             }
         };
-        let told = spare.step(&name);
-        let entry = Entry::Step { name, kind };
-        let kept = Receipt { number, entry };
-        hand_out(&mut self.calls, &mut pass.share, &mut pass.receipts, kept);
-        self.cursor.go_back(thread.exec());
-        pass.seen = number;
-        Ok(Receipt {
-            number,
-            entry: Entry::Step { name: told, kind },
-        })
+        let entry = step_entry(copy, moved);
+        Ok(finish(&mut self.side, &mut pass.kept, number, entry))
     }
 
     pub(crate) fn undo(
@@ -136,40 +107,23 @@ impl<B: Events, L: Sharing> Desk<B, L> {
         pass: &mut Pass<L>,
         step: &StepName,
     ) -> Result<Receipt, SharedRefusal>
-        ensures receipt { IfOk result (GivesReceipt L.begun pass.old pass.new) }
         ensures after { IfOk result (GivesAfter L.begun self.old.log pass.old pass.new) }
         ensures entry { IfOk result (λ r. r.entry ≡ Entry.Undo step.now) }
-        ensures entries { IfOk result (λ r. self.new ≡ with_undoing self.old r.entry) }
+        ensures entries { IfOk result (λ r. self.new ≡ desk_after self.old r.entry) }
         ensures err { IfErr result (λ e. IsRefused L.begun (λ at. undo_answer at step.now) pass.old e × (pass.new ≡ pass.old) × (self.new ≡ self.old)) }
         ensures cause { IfErr result (IsRefusedAt self.old.log pass.old (IsCauseAt (undo_answer self.old.log step.now))) }
     {
-        let (_, entries) = self.book.entries();
-        let number = admit(entries, pass.seen, &mut pass.receipts)?;
-        let Ok((entry, told)) = undo_entries(alloc, step) else {
-            return Err(SharedRefusal::Refused(Refusal::Memory));
-        };
+        let number = self.admit(&mut pass.kept)?;
+        let entry = Twice::of(Entry::Undo { step: step.copy()? })?;
         let Ok(room) = self.book.room(alloc, step) else {
             drop(entry);
-            drop(told);
             return Err(SharedRefusal::Refused(Refusal::Memory));
         };
-        match self.book.undo(room) {
-            Ok(name) => drop(name),
-            Err(refusal) => {
-                drop(entry);
-                drop(told);
-                return Err(SharedRefusal::Refused(refusal));
-            }
+        if let Err(refusal) = self.book.undo(room) {
+            drop(entry);
+            return Err(SharedRefusal::Refused(refusal));
         }
-        let kept = Receipt { number, entry };
-        hand_out(&mut self.calls, &mut pass.share, &mut pass.receipts, kept);
-        self.claims.forget_passed();
-        self.cursor.reset();
-        pass.seen = number;
-        Ok(Receipt {
-            number,
-            entry: told,
-        })
+        Ok(finish(&mut self.side, &mut pass.kept, number, entry))
     }
 
     pub(crate) fn undo_held(
@@ -177,22 +131,16 @@ impl<B: Events, L: Sharing> Desk<B, L> {
         alloc: Global,
         pass: &mut Pass<L>,
     ) -> Result<Receipt, SharedRefusal>
-        ensures receipt { IfOk result (GivesLatest L.begun pass.old pass.new) }
         ensures after { IfOk result (GivesLatestAt L.begun self.old.log pass.old pass.new) }
-        ensures entries { IfOk result (λ r. self.new ≡ with_undoing self.old r.entry) }
+        ensures entries { IfOk result (λ r. self.new ≡ desk_after self.old r.entry) }
         ensures err { IfErr result (λ e. IsRefusedFor L.begun pass.old (IsLatestCause L.begun pass.old) e × (pass.new ≡ pass.old) × (self.new ≡ self.old)) }
         ensures cause { IfErr result (IsRefusedAt self.old.log pass.old (IsLatestCauseAt self.old.log)) }
     {
-        let (_, entries) = self.book.entries();
-        if let Err(foreign) = known(entries, pass.seen, pass.receipts.last()) {
-            return Err(turned_away(foreign));
-        }
+        let _ = self.know(pass)?;
         let Some(last) = self.book.last_left() else {
             return Err(SharedRefusal::Refused(Refusal::NoStep));
         };
-        let Ok(step) = last.copy() else {
-            return Err(SharedRefusal::Refused(Refusal::Memory));
-        };
+        let step = last.copy()?;
         let answer = self.undo(alloc, pass, &step);
         drop(step);
         answer
@@ -204,20 +152,15 @@ impl<B: Events, L: Sharing> Desk<B, L> {
         pass: &mut Pass<L>,
         step: &StepName,
     ) -> Result<Receipt, SharedRefusal>
-        ensures receipt { IfOk result (GivesReceipt L.begun pass.old pass.new) }
         ensures after { IfOk result (GivesAfter L.begun self.old.log pass.old pass.new) }
         ensures entry { IfOk result (λ r. IsRollbackOf step.now r.entry) }
-        ensures entries { IfOk result (λ r. self.new ≡ with_undoing self.old r.entry) }
+        ensures entries { IfOk result (λ r. self.new ≡ desk_after self.old r.entry) }
         ensures err { IfErr result (λ e. IsRefused L.begun (λ at. plan_answer at step.now) pass.old e × (pass.new ≡ pass.old) × (self.new ≡ self.old)) }
         ensures cause { IfErr result (IsRefusedAt self.old.log pass.old (IsCauseAt (plan_answer self.old.log step.now))) }
     {
-        let (_, entries) = self.book.entries();
-        let number = admit(entries, pass.seen, &mut pass.receipts)?;
-        let room = match self.book.plan_room(alloc, step) {
-            Ok(room) => room,
-            Err(refusal) => return Err(SharedRefusal::Refused(refusal)),
-        };
-        let Ok((entry, told)) = rollback_entries(alloc, step, room.names()) else {
+        let number = self.admit(&mut pass.kept)?;
+        let room = self.book.plan_room(alloc, step)?;
+        let Ok(entry) = rollback_entry(alloc, step, room.names()) else {
             drop(room);
             return Err(SharedRefusal::Refused(Refusal::Memory));
         };
@@ -225,15 +168,7 @@ impl<B: Events, L: Sharing> Desk<B, L> {
             Ok(names) => drop(names),
             Err(_) => unreachable!(),
         }
-        let kept = Receipt { number, entry };
-        hand_out(&mut self.calls, &mut pass.share, &mut pass.receipts, kept);
-        self.claims.forget_passed();
-        self.cursor.reset();
-        pass.seen = number;
-        Ok(Receipt {
-            number,
-            entry: told,
-        })
+        Ok(finish(&mut self.side, &mut pass.kept, number, entry))
     }
 
     pub(crate) fn hold(
@@ -242,116 +177,102 @@ impl<B: Events, L: Sharing> Desk<B, L> {
         pass: &mut Pass<L>,
         step: &StepName,
     ) -> Result<Receipt, SharedRefusal>
-        ensures receipt { IfOk result (GivesReceipt L.begun pass.old pass.new) }
         ensures after { IfOk result (GivesAfter L.begun self.old.log pass.old pass.new) }
         ensures entry { IfOk result (λ r. IsHoldEntryOf step.now r.entry) }
-        ensures entries { IfOk result (λ r. self.new ≡ with_undoing self.old r.entry) }
+        ensures entries { IfOk result (λ r. self.new ≡ desk_after self.old r.entry) }
         ensures err { IfErr result (λ e. IsRefused L.begun (λ at. hold_answer at step.now) pass.old e × (pass.new ≡ pass.old) × (self.new ≡ self.old)) }
         ensures cause { IfErr result (IsRefusedAt self.old.log pass.old (IsCauseAt (hold_answer self.old.log step.now))) }
     {
-        let (_, entries) = self.book.entries();
-        let number = admit(entries, pass.seen, &mut pass.receipts)?;
-        let Ok((name, told)) = two_names(step) else {
-            return Err(SharedRefusal::Refused(Refusal::Memory));
-        };
+        let number = self.admit(&mut pass.kept)?;
+        let one = step.copy()?;
+        let other = step.copy()?;
         let count = match self.book.hold(alloc, step) {
             Ok(count) => count,
             Err(refusal) => {
-                drop(name);
-                drop(told);
+                drop(one);
+                drop(other);
                 return Err(SharedRefusal::Refused(refusal));
             }
         };
-        let entry = Entry::Hold { step: name, count };
-        let kept = Receipt { number, entry };
-        hand_out(&mut self.calls, &mut pass.share, &mut pass.receipts, kept);
-        self.claims.forget_passed();
-        self.cursor.reset();
-        pass.seen = number;
-        Ok(Receipt {
-            number,
-            entry: Entry::Hold { step: told, count },
-        })
+        let entry = Twice {
+            one: Entry::Hold { step: one, count },
+            other: Entry::Hold { step: other, count },
+        };
+        Ok(finish(&mut self.side, &mut pass.kept, number, entry))
     }
 }
 
-/// Counts a receipt, and puts it into a pass that has room for it.
-pub(crate) fn hand_out<L: Ledger>(
-    calls: &mut Book<L>,
-    share: &mut Share<L>,
-    receipts: &mut Vec<Receipt>,
-    receipt: Receipt,
-)
-    requires part { 0 < share.old.parts }
-    requires room { vec_len receipts.old < vec_capacity receipts.old }
-    ensures total { calls.new.total ≡ calls.old.total + 1 }
-    ensures amount { share.new.amount ≡ share.old.amount + 1 }
-    ensures parts { share.new.parts ≡ share.old.parts }
-    ensures items { receipts.new.items ≡ receipts.old.items ++ receipt ∷ [] }
+/// Counts the receipt of an entry that the book has, and puts it into a pass that has room for it; answers the caller's. After a start or
+/// a step a search for a thread begins at its execution again; after any other entry before all threads, and none is passed by.
+pub(crate) fn finish<L: Sharing>(
+    side: &mut Side<L>,
+    kept: &mut Kept<L>,
+    number: usize,
+    entry: Twice,
+) -> Receipt
+    requires part { 0 < kept.old.share.parts }
+    requires room { vec_len kept.old.receipts < vec_capacity kept.old.receipts }
+    ensures total { side.new.calls.total ≡ side.old.calls.total + 1 }
+    ensures spare { side.new.spare.amount ≡ side.old.spare.amount }
+    ensures claims { side.new.claims ≡ claims_after side.old.claims entry.one }
+    ensures back { GoesBackFor entry.one (cursor_place side.old.cursor) (cursor_place side.new.cursor) }
+    ensures amount { kept.new.share.amount ≡ kept.old.share.amount + 1 }
+    ensures parts { kept.new.share.parts ≡ kept.old.share.parts }
+    ensures items { kept.new.receipts.items ≡ kept.old.receipts.items ++ result ∷ [] }
+    ensures seen { (kept.new.seen ≡ number) × (kept.new.parts ≡ kept.old.parts) }
+    ensures receipt { result ≡ record { number = number; entry = entry.one } }
 {
-    calls.add(share, 1);
-    receipts.push_reserved(receipt);
+    let Twice { one, other } = entry;
+    match &one {
+        Entry::Start { exec, .. } => side.cursor.go_back(exec.exec()),
+        Entry::Step { name, .. } => side.cursor.go_back(name.thread.exec()),
+        _ => {
+            side.claims.forget_passed();
+            side.cursor.reset();
+        }
+    }
+    side.calls.add(&mut kept.share, 1);
+    kept.receipts.push_reserved(Receipt { number, entry: one });
+    kept.seen = number;
+    Receipt {
+        number,
+        entry: other,
+    }
 }
 
-/// The entry of a start, twice.
-fn start_entries(
-    alloc: Global,
-    exec: &ThreadName,
-    machine: &Text,
-    input: &Json,
-) -> Result<(Entry, Entry), AllocError>
-    ensures { IfOk result (λ p. (p.0 ≡ Entry.Start exec.now machine.now input.now) × (p.1 ≡ Entry.Start exec.now machine.now input.now)) }
+fn start_entry(exec: &ThreadName, machine: &Text, input: &Json) -> Result<Twice, AllocError>
+    ensures { IfOk result (λ entry. entry.one ≡ Entry.Start exec.now machine.now input.now) }
 {
     let input = input.copy()?;
     let machine = machine.copy()?;
     let exec = exec.copy()?;
-    twice(
-        alloc,
-        Entry::Start {
-            exec,
-            machine,
-            input,
-        },
-    )
+    Twice::of(Entry::Start {
+        exec,
+        machine,
+        input,
+    })
 }
 
-/// Two copies of a name.
-fn two_names(step: &StepName) -> Result<(StepName, StepName), AllocError>
-    ensures { IfOk result (λ p. (p.0 ≡ step.now) × (p.1 ≡ step.now)) }
+/// The entry of a step, of whose thread's name there is a copy.
+pub(crate) fn step_entry(thread: ThreadName, moved: Moved) -> Twice
+    requires { moved.name.thread ≡ thread }
+    ensures { result.one ≡ Entry.Step moved.name moved.kind }
 {
-    let one = step.copy()?;
-    let other = step.copy()?;
-    Ok((one, other))
+    let Moved { name, kind } = moved;
+    let told = StepName {
+        thread,
+        no: name.no,
+    };
+    Twice {
+        one: Entry::Step { name, kind },
+        other: Entry::Step { name: told, kind },
+    }
 }
 
-/// The entry of an undoing, twice.
-fn undo_entries(alloc: Global, step: &StepName) -> Result<(Entry, Entry), AllocError>
-    ensures { IfOk result (λ p. (p.0 ≡ Entry.Undo step.now) × (p.1 ≡ Entry.Undo step.now)) }
-{
-    let step = step.copy()?;
-    twice(alloc, Entry::Undo { step })
-}
-
-/// The entry of a rollback, twice.
-fn rollback_entries(
-    alloc: Global,
-    step: &StepName,
-    names: &[StepName],
-) -> Result<(Entry, Entry), AllocError>
-    ensures { IfOk result (λ p. (p.0 ≡ Entry.Rollback step.now names.now) × (p.1 ≡ Entry.Rollback step.now names.now)) }
+fn rollback_entry(alloc: Global, step: &StepName, names: &[StepName]) -> Result<Twice, AllocError>
+    ensures { IfOk result (λ entry. entry.one ≡ Entry.Rollback step.now names.now) }
 {
     let undone = copy_names(alloc, names)?;
     let step = step.copy()?;
-    twice(alloc, Entry::Rollback { step, undone })
-}
-
-/// An entry and a copy of it.
-fn twice(alloc: Global, entry: Entry) -> Result<(Entry, Entry), AllocError>
-    ensures { IfOk result (λ p. (p.0 ≡ entry) × (p.1 ≡ entry)) }
-{
-    let Ok(copy) = entry.copy() else {
-        drop(entry);
-        return Err(AllocError);
-    };
-    Ok((entry, copy))
+    Twice::of(Entry::Rollback { step, undone })
 }

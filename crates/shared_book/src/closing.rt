@@ -8,7 +8,7 @@ ghost use Rattle.shared_book.specs.Views.{ExtendsLog};
 
 use crate::admitting::{Foreign, known};
 use crate::copies::copied;
-use crate::desk::Desk;
+use crate::desk::{Desk, Side};
 use crate::marks::missing;
 use crate::pass::Pass;
 use crate::receipt::Receipt;
@@ -142,14 +142,8 @@ impl<B: Events, L: Sharing> Desk<B, L> {
         ensures legal { IsLegal (B.log result) }
         ensures closed { IsClosed L.begun (B.log result) (all_receipts passes.items) }
     {
-        let Desk {
-            book,
-            first: _,
-            calls,
-            spare,
-            claims: _,
-            cursor: _,
-        } = self;
+        let Desk { book, side, .. } = self;
+        let Side { calls, spare, .. } = side;
         let mut calls = calls;
         gather(&mut calls, spare, passes);
         let _ = book.entries();

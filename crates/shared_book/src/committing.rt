@@ -2,11 +2,11 @@
 ghost use Rattle.std.specs.Prelude.{◌≡◌, true, IfOk, IfErr};
 ghost use Rattle.shared_book.specs.Calls.{IsStepOf};
 ghost use Rattle.shared_book.specs.Away.{WasRefused, claim_ended};
-ghost use Rattle.shared_book.specs.Commits.{GivesTurn, GivesTurnAt, IsNotTaken, IsNotTakenAt, after_turn, is_turn_held, shared_refusal};
-ghost use Rattle.shared_book.specs.Views.{with_claims, desk_with_entry};
+ghost use Rattle.shared_book.specs.Commits.{GivesTurnAt, IsNotTaken, IsNotTakenAt, after_turn, is_turn_held, shared_refusal};
+ghost use Rattle.shared_book.specs.Entering.{desk_after};
+ghost use Rattle.shared_book.specs.Views.{with_claims};
 
-use crate::admitting::admit;
-use crate::changing::hand_out;
+use crate::changing::{finish, step_entry};
 use crate::desk::Desk;
 use crate::pass::Pass;
 use crate::receipt::Receipt;
@@ -14,9 +14,9 @@ use crate::refusal::{SharedCommitRefusal, SharedRefusal};
 use crate::sharing::Sharing;
 use book_events::turns::Prepared;
 use book_events::{CommitRefusal, Events, Ticket};
-use book_log::{Entry, Moved, Refusal};
+use book_log::Refusal;
 use std::alloc::Global;
-use step_names::{NameRoom, ThreadName};
+use step_names::ThreadName;
 
 impl<B: Events, L: Sharing> Desk<B, L> {
     pub(crate) fn commit(
@@ -26,23 +26,18 @@ impl<B: Events, L: Sharing> Desk<B, L> {
         ticket: Ticket,
         prepared: Prepared,
     ) -> Result<Receipt, SharedCommitRefusal>
-        ensures receipt { IfOk result (GivesTurn L.begun ticket.thread prepared pass.old pass.new) }
         ensures after { IfOk result (GivesTurnAt L.begun self.old.log ticket.thread prepared pass.old pass.new) }
         ensures entry { IfOk result (λ r. IsStepOf ticket.thread r.entry) }
-        ensures entries { IfOk result (λ r. self.new ≡ with_claims (desk_with_entry self.old r.entry) (claim_ended self.old.claims ticket.thread)) }
+        ensures entries { IfOk result (λ r. self.new ≡ with_claims (desk_after self.old r.entry) (claim_ended self.old.claims ticket.thread)) }
         ensures err { IfErr result (λ e. IsNotTaken L.begun ticket.thread prepared pass.old e × (pass.new ≡ pass.old) × (self.new ≡ after_turn self.old ticket.thread e)) }
         ensures cause { IfErr result (IsNotTakenAt self.old.log ticket.thread prepared pass.old) }
     {
-        match self.take_turn(alloc, pass, ticket.thread(), prepared) {
-            Ok(receipt) => {
-                self.end_claim(ticket.thread());
-                Ok(receipt)
-            }
-            Err(refusal) => {
-                self.end_refused(ticket.thread(), &refusal);
-                Err(refusal)
-            }
+        let answer = self.take_turn(alloc, pass, ticket.thread(), prepared);
+        match &answer {
+            Ok(_) => self.end_claim(ticket.thread()),
+            Err(refusal) => self.end_refused(ticket.thread(), refusal),
         }
+        answer
     }
 
     fn take_turn(
@@ -52,43 +47,33 @@ impl<B: Events, L: Sharing> Desk<B, L> {
         thread: &ThreadName,
         prepared: Prepared,
     ) -> Result<Receipt, SharedCommitRefusal>
-        ensures receipt { IfOk result (GivesTurn L.begun thread.now prepared pass.old pass.new) }
         ensures after { IfOk result (GivesTurnAt L.begun self.old.log thread.now prepared pass.old pass.new) }
         ensures entry { IfOk result (λ r. IsStepOf thread.now r.entry) }
-        ensures entries { IfOk result (λ r. self.new ≡ desk_with_entry self.old r.entry) }
+        ensures entries { IfOk result (λ r. self.new ≡ desk_after self.old r.entry) }
         ensures err { IfErr result (λ e. IsNotTaken L.begun thread.now prepared pass.old e × (pass.new ≡ pass.old) × (self.new ≡ self.old)) }
         ensures cause { IfErr result (IsNotTakenAt self.old.log thread.now prepared pass.old) }
         ensures held { IfErr result (λ e. is_turn_held e ≡ true → WasRefused self.old.log thread.now) }
     {
-        let (_, entries) = self.book.entries();
-        let number = match admit(entries, pass.seen, &mut pass.receipts) {
+        let number = match self.admit(&mut pass.kept) {
             Ok(number) => number,
             Err(refusal) => {
                 drop(prepared);
                 return Err(SharedCommitRefusal::Refused(refusal));
             }
         };
-        let Ok(spare) = NameRoom::new(alloc) else {
+        let Ok(copy) = thread.copy() else {
             drop(prepared);
             return Err(SharedCommitRefusal::Refused(SharedRefusal::Refused(Refusal::Memory)));
         };
-        let Moved { name, kind } = match self.book.commit(alloc, thread, prepared) {
+        let moved = match self.book.commit(alloc, thread, prepared) {
             Ok(moved) => moved,
             Err(refusal) => {
-                drop(spare);
+                drop(copy);
                 return Err(not_taken(refusal));
             }
         };
-        let told = spare.step(&name);
-        let entry = Entry::Step { name, kind };
-        let kept = Receipt { number, entry };
-        hand_out(&mut self.calls, &mut pass.share, &mut pass.receipts, kept);
-        self.cursor.go_back(thread.exec());
-        pass.seen = number;
-        Ok(Receipt {
-            number,
-            entry: Entry::Step { name: told, kind },
-        })
+        let entry = step_entry(copy, moved);
+        Ok(finish(&mut self.side, &mut pass.kept, number, entry))
     }
 }
 

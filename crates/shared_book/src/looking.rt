@@ -4,13 +4,11 @@ ghost use Rattle.book_log.specs.Log.{left_of};
 ghost use Rattle.book_log.specs.declared.refusal.Refusal.TheVariants.{Memory};
 ghost use Rattle.shared_book.specs.Calls.{IsRefused, IsRefusedFor, Sees, frame_answer};
 
-use crate::admitting::{known, turned_away};
 use crate::desk::Desk;
 use crate::pass::Pass;
 use crate::refusal::SharedRefusal;
 use crate::sharing::Sharing;
 use book_events::Events;
-use book_log::Refusal;
 use book_log::turns::Frame;
 use step_names::ThreadName;
 
@@ -38,22 +36,11 @@ impl<B: Events, L: Sharing> Desk<B, L> {
         ensures seen { OnOk result (Sees L.begun pass.old pass.new self.now.log) }
         ensures err { IfErr result (λ e. IsRefused L.begun (λ at. frame_answer at thread.now) pass.old e × (pass.new ≡ pass.old)) }
     {
-        let (_, entries) = self.book.entries();
-        if let Err(foreign) = known(entries, pass.seen, pass.receipts.last()) {
-            return Err(turned_away(foreign));
-        }
-        let frame = match self.book.show(thread) {
-            Ok(frame) => frame,
-            Err(refusal) => return Err(SharedRefusal::Refused(refusal)),
-        };
-        let Ok(frame) = frame.copy() else {
-            return Err(SharedRefusal::Refused(Refusal::Memory));
-        };
-        pass.seen = entries.len();
-        Ok(Shown {
-            frame,
-            entries: entries.len(),
-        })
+        let entries = self.know(pass)?;
+        let frame = self.book.show(thread)?;
+        let frame = frame.copy()?;
+        pass.kept.seen = entries;
+        Ok(Shown { frame, entries })
     }
 
     pub(crate) fn held_left(&self, pass: &mut Pass<L>) -> Result<HeldLeft, SharedRefusal>
@@ -61,15 +48,11 @@ impl<B: Events, L: Sharing> Desk<B, L> {
         ensures seen { OnOk result (Sees L.begun pass.old pass.new self.now.log) }
         ensures err { IfErr result (λ e. IsRefusedFor L.begun pass.old (λ cause. cause ≡ Memory) e × (pass.new ≡ pass.old)) }
     {
-        let (_, entries) = self.book.entries();
-        if let Err(foreign) = known(entries, pass.seen, pass.receipts.last()) {
-            return Err(turned_away(foreign));
-        }
-        let entries = entries.len();
-        pass.seen = entries;
+        let seen = self.know(pass)?;
+        pass.kept.seen = seen;
         Ok(HeldLeft {
             left: self.book.held_left(),
-            entries,
+            entries: seen,
         })
     }
 }

@@ -10,9 +10,15 @@ use std::sync::ledger::{Ledger, Share};
 /// that is dropped takes its receipts with it, so the book can't be closed then.
 #[derive(Drop)]
 pub struct Pass<L: Ledger> {
+    pub(crate) kept: Kept<L>,
+}
+
+#[derive(Drop)]
+pub(crate) struct Kept<L: Ledger> {
     pub(crate) seen: usize,
     pub(crate) receipts: Vec<Receipt>,
     pub(crate) parts: u64,
+    /// Of so many parts; its amount is the number of the receipts.
     pub(crate) share: Share<L>,
 }
 
@@ -26,9 +32,9 @@ impl<L: Ledger> Model for Pass<L> {
 
     ghost coded = { Prim.hlevel (codes, receipt_row.the_row.coded) };
 
-    ghost view = { λ p. record { seen = p.seen; receipts = p.receipts.items; parts = p.parts } };
+    ghost view = { λ p. record { seen = p.kept.seen; receipts = p.kept.receipts.items; parts = p.kept.parts } };
 
-    ghost invariant = { λ p. (0 < p.parts) × (p.share.parts ≡ p.parts) × (p.share.amount ≡ length p.receipts.items) };
+    ghost invariant = { λ p. (0 < p.kept.parts) × (p.kept.share.parts ≡ p.kept.parts) × (p.kept.share.amount ≡ length p.kept.receipts.items) };
 }
 
 impl<L: Ledger> Pass<L> {
@@ -36,7 +42,7 @@ impl<L: Ledger> Pass<L> {
     pub fn can_seat(&self) -> bool
         ensures { result ≡ nat_le 2 self.now.parts }
     {
-        self.parts >= 2
+        self.kept.parts >= 2
     }
 
     /// A pass for another caller, which has seen as much, has no receipts and takes half of this one's parts. None where one part is
@@ -46,17 +52,20 @@ impl<L: Ledger> Pass<L> {
         ensures seated { IfSome result (λ p. (p ≡ second_half self.old) × (self.new ≡ first_half self.old)) }
         ensures none { IfNone result (self.new ≡ self.old) }
     {
-        if self.parts < 2 {
+        let kept = &mut self.kept;
+        if kept.parts < 2 {
             return None;
         }
-        let half = self.parts / 2;
-        let share = self.share.split_off(half, 0);
-        self.parts -= half;
+        let half = kept.parts / 2;
+        let share = kept.share.split_off(half, 0);
+        kept.parts -= half;
         Some(Pass {
-            seen: self.seen,
-            receipts: Vec::new(*self.receipts.allocator()),
-            parts: half,
-            share,
+            kept: Kept {
+                seen: kept.seen,
+                receipts: Vec::new(*kept.receipts.allocator()),
+                parts: half,
+                share,
+            },
         })
     }
 
@@ -64,21 +73,20 @@ impl<L: Ledger> Pass<L> {
     pub fn receipts(&self) -> &[Receipt]
         ensures { result.now ≡ self.now.receipts }
     {
-        self.receipts.as_slice()
+        self.kept.receipts.as_slice()
     }
 
     /// How many entries were seen.
     pub fn seen(&self) -> usize
         ensures { result ≡ self.now.seen }
     {
-        self.seen
+        self.kept.seen
     }
 
     /// Its share, whose amount is the number of its receipts.
     pub(crate) fn into_share(self) -> Share<L>
         ensures { result.amount ≡ length self.receipts }
     {
-        let Pass { share, .. } = self;
-        share
+        self.kept.share
     }
 }

@@ -6,6 +6,7 @@ ghost use Rattle.shared_book.specs.Commits.{is_turn_held};
 use book_events::Staleness;
 use book_events::turns::Prepared;
 use book_log::{Entry, Refusal};
+use std::alloc::AllocError;
 use step_names::StepName;
 
 /// Why a call of a shared book is refused. Each refusal leaves the book and the pass as they were, and
@@ -24,6 +25,29 @@ impl SharedRefusal {
         ensures { result ≡ is_held self.now }
     {
         matches!(self, SharedRefusal::Refused(Refusal::Held(_)))
+    }
+}
+
+impl From<AllocError> for SharedRefusal {
+    ghost use Rattle.std.specs.Prelude.{◌≡◌};
+    ghost use Rattle.book_log.specs.declared.refusal.Refusal.TheVariants.{Memory};
+    ghost use Rattle.shared_book.specs.declared.refusal.SharedRefusal.TheVariants.{Refused};
+
+    ghost from_gives = { λ _ e. e ≡ Refused Memory };
+
+    fn from(_refused: AllocError) -> SharedRefusal {
+        SharedRefusal::Refused(Refusal::Memory)
+    }
+}
+
+impl From<Refusal> for SharedRefusal {
+    ghost use Rattle.std.specs.Prelude.{◌≡◌};
+    ghost use Rattle.shared_book.specs.declared.refusal.SharedRefusal.TheVariants.{Refused};
+
+    ghost from_gives = { λ refusal e. e ≡ Refused refusal };
+
+    fn from(refusal: Refusal) -> SharedRefusal {
+        SharedRefusal::Refused(refusal)
     }
 }
 

@@ -12,9 +12,9 @@ ghost use Rattle.shared_book.specs.Commits.{GivesTurn, IsNotTaken};
 
 use crate::claiming::Offer;
 use crate::claims::Claims;
-use crate::desk::Desk;
+use crate::desk::{Desk, Side};
 use crate::looking::{HeldLeft, Shown};
-use crate::pass::Pass;
+use crate::pass::{Kept, Pass};
 use crate::receipt::Receipt;
 use crate::refusal::{SharedCommitRefusal, SharedRefusal};
 use crate::sharing::Sharing;
@@ -53,12 +53,14 @@ pub fn share<B: Events, L: Sharing>(alloc: Global, blank: Blank, book: B) -> (Sh
     let desk = Desk {
         book,
         first: seen + 1,
-        calls,
-        spare,
-        claims: Claims::new(alloc),
-        cursor: Cursor::new(alloc),
+        side: Side {
+            calls,
+            spare,
+            claims: Claims::new(alloc),
+            cursor: Cursor::new(alloc),
+        },
     };
-    let pass = Pass {
+    let kept = Kept {
         seen,
         receipts: Vec::new(alloc),
         parts: PARTS,
@@ -68,7 +70,7 @@ pub fn share<B: Events, L: Sharing>(alloc: Global, blank: Blank, book: B) -> (Sh
         Shared {
             desk: Mutex::new(desk),
         },
-        pass,
+        Pass { kept },
     )
 }
 

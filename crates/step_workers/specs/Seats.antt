@@ -1,10 +1,9 @@
 -- The seats of a round before it, and what each gives.
 use Rattle.std.specs.Prelude.{◌≡◌, ℕ, ◌+◌, ◌≤◌, List, [], ◌∷◌, length, vec_capacity}
-use Rattle.book_events.specs.declared.ticket.Ticket.{Ticket}
 use Rattle.shared_book.specs.Views.{PassView}
 use Rattle.slip_queue.specs.Slips.{IsTaker, taker_numbers}
 use Rattle.slip_queue.specs.declared.slips.Slips.{Slips}
-use Rattle.step_workers.specs.Work.{PassGoesOn, AreWrittenTaken}
+use Rattle.step_workers.specs.Work.{AreWrittenTaken, BoxedTicket, PassGoesOn}
 use Rattle.step_workers.specs.declared.allowance.Allowance.{Allowance}
 use Rattle.step_workers.specs.declared.seat.Seat.{Seat}
 use Rattle.step_workers.specs.declared.seat.Served.{Served}
@@ -40,17 +39,17 @@ module _ {L : Type 0} where
   count_served d = length d.taken.items
 
   -- it takes of this queue, and has taken nothing so far
-  pub record IsSeated (q : Slips Ticket) (s : Seat L) : Type 0 where
+  pub record IsSeated (q : Slips BoxedTicket) (s : Seat L) : Type 0 where
     pub taker : IsTaker q s.taker
     pub none : (taker_numbers s.taker ≡ []) × (s.taken.items ≡ [])
     pub room : s.share ≤ vec_capacity s.taken
 
-  abbrev pub AllSeated : Slips Ticket → List (Seat L) → Type 0
+  abbrev pub AllSeated : Slips BoxedTicket → List (Seat L) → Type 0
   AllSeated q [] = Unit {0}
   AllSeated q (s ∷ ss) = IsSeated q s × AllSeated q ss
 
   -- it wrote down what it took, no more than its share, for which it has room
-  pub record IsTaking (q : Slips Ticket) (s : Seat L) : Type 0 where
+  pub record IsTaking (q : Slips BoxedTicket) (s : Seat L) : Type 0 where
     pub taker : IsTaker q s.taker
     pub written : AreWrittenTaken s.taken.items (taker_numbers s.taker)
     pub few : length s.taken.items ≤ s.share
@@ -66,21 +65,21 @@ module _ {L : Type 0} where
   is_more _ s t = length t.taken.items ≡ length s.taken.items
 
   -- what it wrote down it took of this queue
-  pub record IsWell (q : Slips Ticket) (d : Served L) : Type 0 where
+  pub record IsWell (q : Slips BoxedTicket) (d : Served L) : Type 0 where
     pub taker : IsTaker q d.taker
     pub written : AreWrittenTaken d.taken.items (taker_numbers d.taker)
 
-  abbrev pub AllWell : Slips Ticket → List (Served L) → Type 0
+  abbrev pub AllWell : Slips BoxedTicket → List (Served L) → Type 0
   AllWell q [] = Unit {0}
   AllWell q (d ∷ ds) = IsWell q d × AllWell q ds
 
   -- it took no more moves than its share
-  pub record HasServed (q : Slips Ticket) (s : Seat L) (d : Served L) : Type 0 where
+  pub record HasServed (q : Slips BoxedTicket) (s : Seat L) (d : Served L) : Type 0 where
     pub goes : PassGoesOn s.share s.pass d.pass
     pub few : length d.taken.items ≤ s.share
     pub well : IsWell q d
 
-  abbrev pub AllServed : Slips Ticket → List (Seat L) → List (Served L) → Type 0
+  abbrev pub AllServed : Slips BoxedTicket → List (Seat L) → List (Served L) → Type 0
   AllServed q [] [] = Unit {0}
   AllServed q (s ∷ ss) (d ∷ ds) = HasServed q s d × AllServed q ss ds
   AllServed q _ _ = ⊥

@@ -3,6 +3,8 @@ use Rattle.std.specs.Prelude.{◌≡◌, ℕ, ◌+◌, ◌≤◌, List, [], ◌�
 use Rattle.std.specs.declared.vec.Vec.{Vec}
 use Rattle.book_log.specs.declared.entry.Entry.{Entry}
 use Rattle.book_log.specs.declared.entry.Entry.TheVariants.{Step as Stepped}
+use Rattle.std.specs.declared.alloc.Global.{Global}
+use Rattle.std.specs.declared.boxed.Box.{Box}
 use Rattle.book_events.specs.declared.ticket.Ticket.{Ticket}
 use Rattle.shared_book.specs.Views.{PassView, first_half, second_half}
 use Rattle.shared_book.specs.declared.receipt.Receipt.{Receipt}
@@ -61,8 +63,12 @@ abbrev pub all_taken : {A : Type 0} → List (Vec ℕ A) → List ℕ
 all_taken [] = []
 all_taken (v ∷ vs) = v.items ++ all_taken vs
 
+-- a ticket as it lies in the queue
+abbrev pub BoxedTicket : Type 0
+BoxedTicket = Box Ticket Global
+
 -- it gives into this queue still, put at most n slips more, and knows as much of what was taken
-pub record KeepsGiver (n : ℕ) (q : Slips Ticket) (had has : Giver Ticket) : Type 0 where
+pub record KeepsGiver (n : ℕ) (q : Slips BoxedTicket) (had has : Giver BoxedTicket) : Type 0 where
   pub parts : parts_of has ≡ parts_of had
   pub taken : taken_of has ≡ taken_of had
   pub few : given_of has ≤ given_of had + n

@@ -3,9 +3,10 @@ ghost use Rattle.std.specs.Prelude.{◌≡◌, ◌+◌};
 ghost use Rattle.slip_queue.specs.Slips.{IsGiver};
 ghost use Rattle.step_workers.specs.Work.{PassGoesOn, KeepsGiver};
 
-use crate::board::Board;
+use crate::board::{Board, BoxedTicket};
 use crate::seat::Served;
-use book_events::{Events, Ticket};
+use book_events::Events;
+use book_log::Refusal;
 use shared_book::{Offer, Pass, Shared, SharedRefusal, Sharing};
 use slip_queue::Giver;
 use std::alloc::Global;
@@ -17,7 +18,7 @@ use std::thread;
 /// Who hands out tickets, how many at most and to how many workers; and what the workers give when they end.
 #[derive(Drop)]
 pub(crate) struct Dispatcher<L: Ledger> {
-    pub(crate) giver: Giver<Ticket>,
+    pub(crate) giver: Giver<BoxedTicket>,
     pub(crate) pass: Pass<L>,
     pub(crate) tickets: u32,
     pub(crate) workers: u32,
@@ -74,7 +75,7 @@ fn hand_out<B: Events, L: Sharing>(
     alloc: Global,
     shared: &Shared<B, L>,
     board: &Board,
-    giver: &mut Giver<Ticket>,
+    giver: &mut Giver<BoxedTicket>,
     pass: &mut Pass<L>,
     limits: Limits,
 ) -> Option<SharedRefusal>
@@ -89,10 +90,16 @@ fn hand_out<B: Events, L: Sharing>(
             return None;
         }
         match shared.offer(rt, alloc, pass) {
-            Ok(Offer::Ticket(ticket)) => {
-                give(rt, board, giver, Some(ticket));
-                left -= 1;
-            }
+            Ok(Offer::Ticket(ticket)) => match Box::new(alloc, ticket) {
+                Ok(ticket) => {
+                    give(rt, board, giver, Some(ticket));
+                    left -= 1;
+                }
+                Err(refused) => {
+                    shared.give_back(rt, refused.value);
+                    return Some(SharedRefusal::Refused(Refusal::Memory));
+                }
+            },
             Ok(Offer::Busy(_)) => thread::yield_now(),
             Ok(Offer::Idle) => return None,
             Err(refusal) => return Some(refusal),
@@ -102,7 +109,7 @@ fn hand_out<B: Events, L: Sharing>(
 }
 
 /// A slip without work for each worker.
-fn end_all(rt: &impl Wait, board: &Board, giver: &mut Giver<Ticket>, workers: u32)
+fn end_all(rt: &impl Wait, board: &Board, giver: &mut Giver<BoxedTicket>, workers: u32)
     requires { IsGiver board.now.slips giver.old }
     ensures { KeepsGiver workers board.now.slips giver.old giver.new }
 {
@@ -112,7 +119,7 @@ fn end_all(rt: &impl Wait, board: &Board, giver: &mut Giver<Ticket>, workers: u3
 }
 
 /// Puts a slip into the queue, and waits while it is full.
-fn give(rt: &impl Wait, board: &Board, giver: &mut Giver<Ticket>, work: Option<Ticket>)
+fn give(rt: &impl Wait, board: &Board, giver: &mut Giver<BoxedTicket>, work: Option<BoxedTicket>)
     requires { IsGiver board.now.slips giver.old }
     ensures { KeepsGiver 1 board.now.slips giver.old giver.new }
 {

@@ -5,11 +5,10 @@ ghost use Rattle.step_workers.specs.Seats.{AllWell, count_served, pass_served};
 ghost use Rattle.step_workers.specs.Rooms.{IsTray};
 ghost use Rattle.step_workers.specs.Work.{AreWrittenTaken, all_taken, count_of};
 
-use crate::board::Board;
+use crate::board::{Board, BoxedTicket};
 use crate::dispatching::Dispatcher;
 use crate::outcome::{Outcome, Stopped};
 use crate::seat::Served;
-use book_events::Ticket;
 use shared_book::Pass;
 use slip_queue::Giver;
 use std::alloc::{AllocError, Global};
@@ -79,7 +78,7 @@ pub(crate) fn gather<L: Ledger>(
 #[tactic(auto, using(crate::proofs::Seated::well_front, crate::proofs::Seated::tray_less))]
 fn lay_out<L: Ledger>(
     board: &Board,
-    giver: &mut Giver<Ticket>,
+    giver: &mut Giver<BoxedTicket>,
     served: Vec<Served<L>>,
     tray: Tray<L>,
 ) -> Tray<L>

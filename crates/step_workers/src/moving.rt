@@ -59,17 +59,12 @@ fn commit<B: Events, L: Sharing>(
             drop(receipt);
             Ok(())
         }
-        Err(SharedCommitRefusal::Stale(why, prepared)) => {
-            drop(why);
-            drop(prepared);
-            Ok(())
-        }
-        Err(SharedCommitRefusal::Held(step, prepared)) => {
-            drop(step);
-            drop(prepared);
-            Ok(())
-        }
         Err(SharedCommitRefusal::Refused(refusal)) => unless_in_the_way(refusal),
+        // stale, or held back
+        Err(refusal) => {
+            drop(refusal);
+            Ok(())
+        }
     }
 }
 

@@ -5,12 +5,12 @@ ghost use Rattle.slip_queue.specs.Slips.{IsGiver};
 ghost use Rattle.step_workers.specs.Work.{PassGoesOn, KeepsGiver};
 ghost use Rattle.step_workers.specs.Seats.{AllSeated, AllServed, HasServed, IsSeated, seat_shares};
 
-use crate::board::Board;
+use crate::board::{Board, BoxedTicket};
 use crate::dispatching::{Dispatcher, dispatch};
 use crate::gate::Gate;
 use crate::seat::{Seat, Served};
 use crate::worker::serve;
-use book_events::{Events, Ticket};
+use book_events::Events;
 use shared_book::{Shared, Sharing};
 use slip_queue::Slips;
 use std::alloc::Global;
@@ -23,7 +23,7 @@ use std::thread::{Promise, PromisedHandle, Scope, Threads};
 /// What a worker's thread promises of what it gives.
 #[derive(Drop)]
 pub(crate) struct Serves<L: Sharing> {
-    slips: Snapshot<Slips<Ticket>>,
+    slips: Snapshot<Slips<BoxedTicket>>,
     seat: Snapshot<Seat<L>>,
 }
 

@@ -4,9 +4,8 @@ ghost use Rattle.slip_queue.specs.Slips.{IsGiver, given_of, parts_of, taken_of};
 ghost use Rattle.step_workers.specs.Seats.{AllRoomy, AllSeated, pass_of, share_in, share_of};
 
 use crate::allowance::Allowance;
-use crate::board::Board;
+use crate::board::{Board, BoxedTicket};
 use crate::seat::Seat;
-use book_events::Ticket;
 use shared_book::Pass;
 use slip_queue::Giver;
 use std::sync::ledger::Ledger;
@@ -15,7 +14,7 @@ use std::sync::ledger::Ledger;
 #[tactic(auto, using(crate::proofs::Sums::roomy_front))]
 pub(crate) fn seat_all<L: Ledger>(
     board: &Board,
-    giver: &mut Giver<Ticket>,
+    giver: &mut Giver<BoxedTicket>,
     passes: Vec<Pass<L>>,
     allowances: Vec<Allowance>,
     seats: Vec<Seat<L>>,

@@ -3,12 +3,12 @@ ghost use Rattle.std.specs.Prelude.{◌≡◌, []};
 ghost use Rattle.step_workers.specs.Seats.{HasServed, IsSeated, IsTaking, KeepsSeat, is_more};
 ghost use Rattle.step_workers.specs.Work.{PassGoesOn};
 
-use crate::board::Board;
+use crate::board::{Board, BoxedTicket};
 use crate::gate::Gate;
 use crate::moving::take_move;
 use crate::outcome::Stopped;
 use crate::seat::{Seat, Served};
-use book_events::{Events, Ticket};
+use book_events::Events;
 use book_log::Refusal;
 use shared_book::{Shared, SharedRefusal, Sharing};
 use slip_queue::Slip;
@@ -88,7 +88,7 @@ fn take_all<B: Events, L: Sharing, G: Gate, R: Wait>(
                     gate,
                     number,
                     &mut seat.pass,
-                    ticket,
+                    Box::into_inner(ticket),
                 ) {
                     return Stopped::Refused(refusal);
                 }
@@ -113,7 +113,7 @@ fn hand_back<B: Events, L: Sharing>(
 {
     for _ in rt.forever() {
         match next_ticket(rt, board, seat) {
-            NextTicket::Ticket(ticket) => shared.give_back(rt, ticket),
+            NextTicket::Ticket(ticket) => shared.give_back(rt, Box::into_inner(ticket)),
             NextTicket::Spent | NextTicket::Ended => return,
         }
     }
@@ -123,7 +123,7 @@ fn hand_back<B: Events, L: Sharing>(
 /// What comes next for a seat.
 #[derive(Drop)]
 pub(crate) enum NextTicket {
-    Ticket(Ticket),
+    Ticket(BoxedTicket),
     /// Its share is spent.
     Spent,
     /// No more tickets are handed out.

@@ -6,7 +6,7 @@ ghost use Rattle.step_workers.specs.Rooms.{HasBoardRoom};
 ghost use Rattle.step_workers.specs.Shares.{shares_of};
 
 use crate::allowance::{Allowance, allowances};
-use crate::board::Board;
+use crate::board::{Board, BoxedTicket};
 use crate::dispatching::Dispatcher;
 use crate::gate::Gate;
 use crate::gathering::{Tray, gather};
@@ -14,7 +14,7 @@ use crate::outcome::Outcome;
 use crate::running::run_all;
 use crate::seat::{Seat, Served};
 use crate::seating::seat_all;
-use book_events::{Events, Ticket};
+use book_events::Events;
 use shared_book::{Pass, Shared, Sharing};
 use slip_queue::{Giver, Slips};
 use std::alloc::{AllocError, Global};
@@ -27,13 +27,13 @@ use std::thread::Threads;
 /// How many workers a round may have.
 pub const MOST_WORKERS: usize = 8;
 
-/// How many tickets may wait in the queue.
-const MOST_WAITING: usize = 64;
+/// How many tickets may wait in the queue, for each worker. So few threads are claimed at a time, and are looked up fast.
+const WAITING_FOR_EACH: usize = 8;
 
 /// The memory of a round.
 struct Rooms<L: Ledger> {
     board: Board,
-    giver: Giver<Ticket>,
+    giver: Giver<BoxedTicket>,
     allowances: Vec<Allowance>,
     seats: Vec<Seat<L>>,
     served: Vec<Served<L>>,
@@ -45,7 +45,7 @@ impl<L: Ledger> Rooms<L> {
         requires { (0 < seats) × (seats < 2 ^ 32) }
         ensures { IfOk result (HasBoardRoom seats budget) }
     {
-        let (slips, giver) = Slips::open(alloc, MOST_WAITING)?;
+        let (slips, giver) = Slips::open(alloc, seats * WAITING_FOR_EACH)?;
         let board = Board {
             slips,
             unstarted: AtomicU64::new(0),
@@ -66,7 +66,7 @@ impl<L: Ledger> Rooms<L> {
 /// Works on a shared book with a thread for each pass, until no thread of the book can move or the budget of moves is spent, which the
 /// workers share equally (the first ones have one more where it doesn't divide). A move that was overtaken or that a hold keeps back
 /// costs one too.
-/// All that a round itself needs of memory is taken before the first move.
+/// All that a round itself needs of memory is taken before the first move, but for a block for each ticket.
 ///
 /// # Errors
 ///

@@ -15,11 +15,11 @@ returns-clause-away g c = record { claimed = c.first_ticket.ensures.claimed; pas
 pub invariant_of-self-2 : goal.invariant_of-self-2
 invariant_of-self-2 g c =
     let log = g.B.Events.log c.self.inside.book in
-    let was = c.self.inside.claims in
+    let was = c.self.inside.side.claims in
     let now = c.note.new.claims in
-    let found = thread_of c.in-Ok.found in
+    let found = thread_of c.in_ok-found.found in
     let ok = sym c.if-is_err.ensures.value in
-    let ready = subst (λ (d : DeskView). IsFirstReady (world_of d.log).frames (is_thread_among d.claims.outside) found) (sym c.self.view_is) c.in-Ok.ensures.ready in (
+    let ready = subst (λ (d : DeskView). IsFirstReady (world_of d.log).frames (is_thread_among d.claims.outside) found) (sym c.self.view_is) c.in_ok-found.ensures.ready in (
       c.self.invariant.0,
       c.self.invariant.1,
       were_fewer log was now (so_if_ok c.note.result (PassesNoOther was now) ok c.note.ensures.passed) c.self.invariant.2,

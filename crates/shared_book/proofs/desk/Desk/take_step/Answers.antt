@@ -1,49 +1,33 @@
-use Rattle.std.proofs.Common.{ℕ, List, refl, ap, subst, sym, ◌∙◌}
-use Rattle.step_names.specs.Thread.{Thread}
-use Rattle.book_log.proofs.Elsewhere.{steps_leave_others}
-use Rattle.step_names.specs.declared.step.StepName.{StepName}
+use Rattle.std.proofs.Common.{◌∙◌, subst, sym}
+use Rattle.book_log.specs.Legal.{IsLegal}
 use Rattle.book_log.specs.declared.entry.Entry.TheVariants.{Step as Stepped}
-use Rattle.shared_book.proofs.Answering.{counted_more, given, given_after, step_accepted, step_of}
 use Rattle.shared_book.specs.Away.{WasRefused}
 use Rattle.shared_book.specs.Views.{DeskView}
-use Rattle.shared_book.proofs.HeldBack.{held_step, were_more}
-use Rattle.shared_book.proofs.Sought.{none_elsewhere}
-use Rattle.book_events.specs.Cursors.{GoesBack, cursor_place}
+use Rattle.shared_book.proofs.Answering.{given, step_accepted, step_of}
+use Rattle.shared_book.proofs.Entered.{entered}
+use Rattle.shared_book.proofs.HeldBack.{held_step}
 use Rattle.shared_book.proofs.desk.Desk.take_step.Goals as goal
 
-pub returns-clause-receipt : goal.returns-clause-receipt
-returns-clause-receipt g c =
-    let moved = c.in-Ok-step.moved in
-    let appended = step_accepted _ c.args.thread.now moved c.in-Ok-step.ensures.answer in
-    rw (← c.pass.view_is) (given _ _ _ _ _ _ _ _ _ c.self.invariant.0.goes c.entries.ensures.entries c.entries.ensures.legal appended c.in_ok-number.ensures.known c.in_ok-number.ensures.number
-    refl (ap (λ (n : StepName). Stepped n moved.kind) c.step-told.ensures) (rw c.admit.ensures.same at c.hand_out.ensures.items))
+pub step_entry-entry-requires : goal.step_entry-entry-requires
+step_entry-entry-requires g c = step_of _ c.args.thread.now c.in-Ok.moved c.in-Ok.ensures.answer ∙ sym c.in_ok-copy.ensures
+
+pub returns-clause-entry : goal.returns-clause-entry
+returns-clause-entry g c = rw (c.finish.ensures.receipt, c.step_entry-entry.ensures) (step_of _ c.args.thread.now c.in-Ok.moved c.in-Ok.ensures.answer)
 
 pub returns-clause-after : goal.returns-clause-after
 returns-clause-after g c =
-    let moved = c.in-Ok-step.moved in
-    let appended = step_accepted _ c.args.thread.now moved c.in-Ok-step.ensures.answer in
-    rw (← c.self.view_is) (rw (← c.pass.view_is) (given_after _ _ _ _ _ _ _ _ _ c.self.invariant.0.goes c.entries.ensures.entries c.entries.ensures.legal appended c.in_ok-number.ensures.known c.in_ok-number.ensures.number
-    refl (ap (λ (n : StepName). Stepped n moved.kind) c.step-told.ensures) (rw c.admit.ensures.same at c.hand_out.ensures.items)))
+    let moved = c.in-Ok.moved in
+    let accepted = step_accepted _ c.args.thread.now moved c.in-Ok.ensures.answer in
+    given _ _ _ _ _ _ _ _ _ c.self.view_is c.pass.view_is c.admit.ensures.goes c.admit.ensures.legal c.in_ok-number.ensures.known (Stepped moved.name moved.kind) _ _ _ _ _ _ _ c.in_ok-number.ensures.number
+    accepted c.step_entry-entry.ensures c.admit.ensures.items c.finish.ensures.items c.finish.ensures.receipt c.finish.ensures.seen.0 (c.finish.ensures.seen.1 ∙ c.admit.ensures.same.1)
 
-pub returns-clause-entry : goal.returns-clause-entry
-returns-clause-entry g c = ap (λ (n : StepName). n.thread) c.step-told.ensures ∙ step_of _ c.args.thread.now c.in-Ok-step.moved c.in-Ok-step.ensures.answer
+pub invariant_of-self-2 : goal.invariant_of-self-2
+invariant_of-self-2 g c =
+    let moved = c.in-Ok.moved in
+    let accepted = step_accepted _ c.args.thread.now moved c.in-Ok.ensures.answer in
+    entered _ _ _ _ _ _ _ _ _ _ _ _ _ c.self.invariant c.self.view_is c.admit.ensures.legal (Stepped moved.name moved.kind) _ accepted c.in-Ok.ensures.ok c.step_entry-entry.ensures c.finish.ensures.total c.finish.ensures.spare c.finish.ensures.claims c.finish.ensures.back
 
 pub returns-in-Err-clause-held : goal.returns-in-Err-clause-held
 returns-in-Err-clause-held g c = λ h.
     let t = c.args.thread.now in
-    subst (λ (d : DeskView). WasRefused d.log t) c.self.view_is (held_step (g.B.Events.log c.self.inside.book) t c.in-Err.refusal c.entries.ensures.legal c.in-Err.ensures.answer h)
-
-pub invariant_of-self-2 : goal.invariant_of-self-2
-invariant_of-self-2 g c =
-    let moved = c.in-Ok-step.moved in
-    let from = cursor_place c.self.inside.cursor in
-    let to = cursor_place c.go_back.new.self in
-    let appended = step_accepted _ c.args.thread.now moved c.in-Ok-step.ensures.answer in
-    let leaves = steps_leave_others (g.B.Events.log c.self.inside.book) moved.name moved.kind c.entries.ensures.legal appended in
-    let own = ap (λ (t : Thread). t.exec) (step_of _ c.args.thread.now moved c.in-Ok-step.ensures.answer) in
-    let back = subst (λ (x : List ℕ). GoesBack x from to) (c.exec.ensures.exec ∙ sym own) c.go_back.ensures in (
-      counted_more _ _ _ _ _ _ _ c.self.invariant.0 c.in-Ok-step.ensures.ok c.hand_out.ensures.total,
-      c.self.invariant.1,
-      were_more _ _ _ (Stepped moved.name moved.kind) tt c.in-Ok-step.ensures.ok c.self.invariant.2,
-      none_elsewhere _ _ _ c.self.inside.claims moved.name.thread.exec from to leaves c.in-Ok-step.ensures.ok back c.self.invariant.3,
-    )
+    subst (λ (d : DeskView). IsLegal d.log → WasRefused d.log t) c.self.view_is (λ legal. held_step _ t c.in-Err.refusal legal c.in-Err.ensures.answer h) c.admit.ensures.legal

@@ -1,84 +1,61 @@
-use Rattle.std.proofs.Common.{◌≡◌, ℕ, List, true, refl, ap, subst, sym, ◌∙◌}
-use Rattle.step_names.specs.Thread.{Thread}
-use Rattle.book_log.proofs.Elsewhere.{steps_leave_others}
-use Rattle.step_names.specs.declared.step.StepName.{StepName}
-use Rattle.book_log.specs.declared.entry.Entry.TheVariants.{Step as Stepped}
-use Rattle.shared_book.proofs.Answering.{counted_more, given_after, given_turn, turn_accepted, turn_not_taken, turn_not_taken_at, turn_of}
-use Rattle.shared_book.specs.Away.{WasRefused}
-use Rattle.shared_book.specs.Calls.{MaySee}
-use Rattle.shared_book.specs.Commits.{IsNotTaken, IsNotTakenAt, is_turn_held}
-use Rattle.shared_book.specs.Numbers.{IsKnown, last_of}
-use Rattle.shared_book.specs.declared.receipt.Receipt.{Receipt}
+use Rattle.std.proofs.Common.{◌≡◌, ◌∙◌, rules, subst, sym, true}
+use Rattle.book_events.specs.Commits.{AnswersCommit, IsFresh}
+use Rattle.book_log.specs.Legal.{IsLegal}
 use Rattle.book_log.specs.Log.{Log}
-use Rattle.book_log.specs.declared.entry.Entry.{Entry}
-use Rattle.shared_book.specs.Views.{DeskView, PassView}
+use Rattle.book_log.specs.declared.entry.Entry.TheVariants.{Step as Stepped}
+use Rattle.shared_book.specs.Away.{WasRefused}
+use Rattle.shared_book.specs.Commits.{IsNotTaken, IsNotTakenAt, is_turn_held}
+use Rattle.shared_book.specs.Views.{DeskView}
 use Rattle.shared_book.specs.declared.refusal.SharedCommitRefusal.{SharedCommitRefusal}
-use Rattle.shared_book.proofs.HeldBack.{held_turn, were_more}
-use Rattle.shared_book.proofs.Sought.{none_elsewhere}
-use Rattle.book_events.specs.Cursors.{GoesBack, cursor_place}
+use Rattle.std.specs.Prelude.{Err}
+use Rattle.shared_book.proofs.Answering.{given, may_see, turn_accepted, turn_not_taken, turn_not_taken_at, turn_of}
+use Rattle.shared_book.proofs.Entered.{entered}
+use Rattle.shared_book.proofs.HeldBack.{held_turn}
 use Rattle.shared_book.proofs.desk.Desk.take_turn.Goals as goal
 
-pub returns-clause-receipt : goal.returns-clause-receipt
-returns-clause-receipt g c =
-    let moved = c.in-Ok-commit.moved in
-    let answer = c.in-Ok-commit.ensures.answer in
-    rw (← c.pass.view_is) (given_turn _ _ _ _ _ _ _ _ _ _ _ c.self.invariant.0.goes c.entries.ensures.entries c.entries.ensures.legal (turn_accepted _ c.args.thread.now moved answer.1)
-    c.in-Ok.ensures.known c.in-Ok.ensures.number refl (ap (λ (n : StepName). Stepped n moved.kind) c.step-told.ensures) (rw c.admit.ensures.same at c.hand_out.ensures.items) answer.0)
+pub step_entry-entry-requires : goal.step_entry-entry-requires
+step_entry-entry-requires g c = turn_of _ c.args.thread.now c.in-Ok-commit.moved c.in-Ok-commit.ensures.answer.1 ∙ sym c.in-Ok-copy.ensures
+
+pub returns-clause-entry : goal.returns-clause-entry
+returns-clause-entry g c = rw (c.finish.ensures.receipt, c.step_entry-entry.ensures) (turn_of _ c.args.thread.now c.in-Ok-commit.moved c.in-Ok-commit.ensures.answer.1)
 
 pub returns-clause-after : goal.returns-clause-after
 returns-clause-after g c =
     let moved = c.in-Ok-commit.moved in
-    let answer = c.in-Ok-commit.ensures.answer in
-    rw (← c.self.view_is) (rw (← c.pass.view_is) (
-      given_after _ _ _ _ _ _ _ _ _ c.self.invariant.0.goes c.entries.ensures.entries c.entries.ensures.legal (turn_accepted _ c.args.thread.now moved answer.1)
-          c.in-Ok.ensures.known c.in-Ok.ensures.number refl (ap (λ (n : StepName). Stepped n moved.kind) c.step-told.ensures) (rw c.admit.ensures.same at c.hand_out.ensures.items),
-      answer.0,
-    ))
-
-pub returns-clause-entry : goal.returns-clause-entry
-returns-clause-entry g c = ap (λ (n : StepName). n.thread) c.step-told.ensures ∙ turn_of _ c.args.thread.now c.in-Ok-commit.moved c.in-Ok-commit.ensures.answer.1
+    let accepted = turn_accepted _ c.args.thread.now moved c.in-Ok-commit.ensures.answer.1 in
+    let gave = given _ _ _ _ _ _ _ _ _ c.self.view_is c.pass.view_is c.admit.ensures.goes c.admit.ensures.legal c.in-Ok.ensures.known (Stepped moved.name moved.kind) _ _ _ _ _ _ _ c.in-Ok.ensures.number
+    accepted c.step_entry-entry.ensures c.admit.ensures.items c.finish.ensures.items c.finish.ensures.receipt c.finish.ensures.seen.0 (c.finish.ensures.seen.1 ∙ c.admit.ensures.same.1) in
+    let fresh = subst (λ (d : DeskView). IsFresh d.log c.args.thread.now c.args.prepared) c.self.view_is c.in-Ok-commit.ensures.answer.0 in
+    ((gave.0, subst (λ (log : Log). IsFresh log c.args.thread.now c.args.prepared) (sym gave.1) fresh), gave.1)
 
 pub invariant_of-self-2 : goal.invariant_of-self-2
 invariant_of-self-2 g c =
     let moved = c.in-Ok-commit.moved in
-    let from = cursor_place c.self.inside.cursor in
-    let to = cursor_place c.go_back.new.self in
-    let answer = c.in-Ok-commit.ensures.answer.1 in
-    let appended = turn_accepted _ c.args.thread.now moved answer in
-    let leaves = steps_leave_others (g.B.Events.log c.self.inside.book) moved.name moved.kind c.entries.ensures.legal appended in
-    let own = ap (λ (t : Thread). t.exec) (turn_of _ c.args.thread.now moved answer) in
-    let back = subst (λ (x : List ℕ). GoesBack x from to) (c.exec.ensures.exec ∙ sym own) c.go_back.ensures in (
-      counted_more _ _ _ _ _ _ _ c.self.invariant.0 c.in-Ok-commit.ensures.log c.hand_out.ensures.total,
-      c.self.invariant.1,
-      were_more _ _ _ (Stepped moved.name moved.kind) tt c.in-Ok-commit.ensures.log c.self.invariant.2,
-      none_elsewhere _ _ _ c.self.inside.claims moved.name.thread.exec from to leaves c.in-Ok-commit.ensures.log back c.self.invariant.3,
-    )
+    let accepted = turn_accepted _ c.args.thread.now moved c.in-Ok-commit.ensures.answer.1 in
+    entered _ _ _ _ _ _ _ _ _ _ _ _ _ c.self.invariant c.self.view_is c.admit.ensures.legal (Stepped moved.name moved.kind) _ accepted c.in-Ok-commit.ensures.log c.step_entry-entry.ensures c.finish.ensures.total c.finish.ensures.spare c.finish.ensures.claims c.finish.ensures.back
 
 pub returns-in-Err-commit-clause-held : goal.returns-in-Err-commit-clause-held
 returns-in-Err-commit-clause-held g c = λ h.
     let t = c.args.thread.now in
     let told = subst (λ (e : SharedCommitRefusal). is_turn_held e ≡ true) c.not_taken.ensures h in
-    subst (λ (d : DeskView). WasRefused d.log t) c.self.view_is (held_turn (g.B.Events.log c.self.inside.book) t c.args.prepared c.in-Err-commit.refusal c.entries.ensures.legal c.in-Err-commit.ensures.answer told)
+    subst (λ (d : DeskView). IsLegal d.log → WasRefused d.log t) c.self.view_is (λ legal. held_turn _ t c.args.prepared c.in-Err-commit.refusal legal c.in-Err-commit.ensures.answer told) c.admit.ensures.legal
 
 pub returns-in-Err-commit-clause-err : goal.returns-in-Err-commit-clause-err
 returns-in-Err-commit-clause-err g c =
-    let log = g.B.Events.log c.self.inside.book in
     let t = c.args.thread.now in
-    let had : PassView = record { seen = c.pass.inside.seen; receipts = c.pass.inside.receipts.items; parts = c.pass.inside.parts } in
-    let may : MaySee g.L.Sharing.begun had log = record {
-      goes = c.self.invariant.0.goes;
-      legal = c.entries.ensures.legal;
-      known = subst (λ (l : List Entry). IsKnown l had.seen (last_of had.receipts)) c.entries.ensures.entries c.in-Ok.ensures.known;
-    } in
-    rw (← c.pass.view_is) (
-      subst (IsNotTaken g.L.Sharing.begun t c.args.prepared had) (sym c.not_taken.ensures) (turn_not_taken g.L.Sharing.begun log had t c.args.prepared c.in-Err-commit.refusal may c.in-Err-commit.ensures.answer),
-      ap (λ (l : List Receipt). let p : PassView = record { seen = had.seen; receipts = l; parts = had.parts } in p) c.admit.ensures.same,
-      ap (λ (s : Log). let d : DeskView = record { log = s; first = c.self.inside.first; claims = c.self.inside.claims } in d) c.in-Err-commit.ensures.log ∙ c.self.view_is,
+    let p = c.args.prepared in
+    let r = c.in-Err-commit.refusal in
+    let answer = subst (λ (d : DeskView). AnswersCommit d.log t p (Err r)) c.self.view_is c.in-Err-commit.ensures.answer in
+    let may = may_see _ _ _ _ _ _ _ _ _ c.self.view_is c.pass.view_is c.admit.ensures.goes c.admit.ensures.legal c.in-Ok.ensures.known in (
+      subst (IsNotTaken g.L.Sharing.begun t p c.args.pass.now) (sym c.not_taken.ensures) (turn_not_taken g.L.Sharing.begun c.args.self.now.log c.args.pass.now t p r may answer),
+      search rules,
+      search rules,
     )
 
 pub returns-in-Err-commit-clause-cause : goal.returns-in-Err-commit-clause-cause
 returns-in-Err-commit-clause-cause g c =
-    let log = g.B.Events.log c.self.inside.book in
     let t = c.args.thread.now in
-    subst (λ (d : DeskView). IsNotTakenAt d.log t c.args.prepared c.args.pass.now c.not_taken.result) c.self.view_is
-    (subst (IsNotTakenAt log t c.args.prepared c.args.pass.now) (sym c.not_taken.ensures) (turn_not_taken_at log c.args.pass.now t c.args.prepared c.in-Err-commit.refusal c.in-Err-commit.ensures.answer))
+    let p = c.args.prepared in
+    let r = c.in-Err-commit.refusal in
+    let answer = subst (λ (d : DeskView). AnswersCommit d.log t p (Err r)) c.self.view_is c.in-Err-commit.ensures.answer in
+    subst (IsNotTakenAt c.args.self.now.log t p c.args.pass.now) (sym c.not_taken.ensures) (turn_not_taken_at c.args.self.now.log c.args.pass.now t p r answer)
