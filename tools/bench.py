@@ -27,6 +27,7 @@ import sys
 import tempfile
 import time
 
+import callgrind
 import workloads
 from workloads import TABLE, define, text_of
 
@@ -59,7 +60,7 @@ class Counter:
 
     def count(self, file):
         with open(file, "rb") as stdin:
-            done = subprocess.run(["valgrind", "--tool=callgrind", f"--callgrind-out-file={file}.out", self.program],
+            done = subprocess.run([*callgrind.COUNTED, f"--callgrind-out-file={file}.out", self.program], env=callgrind.ENVIRONMENT,
                                   stdin=stdin, stdout=subprocess.DEVNULL, stderr=subprocess.PIPE, text=True, check=False)
         found = re.search(r"Collected : (\d+)", done.stderr)
         if done.returncode != 0 or not found:

@@ -20,10 +20,12 @@ import subprocess
 import sys
 import tempfile
 
+import callgrind
+
 TOP = pathlib.Path(__file__).resolve().parent.parent
 PROGRAM = TOP / "crates/rollback_program/out/rollback_program"
 GRAPH = TOP / "crates/rollback_graph/out/rollback_graph"
-VALGRIND = ["valgrind", "--quiet", "--tool=callgrind"]
+VALGRIND = [*callgrind.COUNTED, "--quiet"]
 
 
 def row(name, value, unit):
@@ -90,7 +92,7 @@ class Follower:
     def __init__(self, graph, folder):
         self.out = os.path.join(folder, "counts")
         words = [*VALGRIND, "--instr-atstart=no", f"--callgrind-out-file={self.out}", str(graph), "--serve"]
-        self.process = subprocess.Popen(words, stdin=subprocess.PIPE, stdout=subprocess.PIPE)
+        self.process = subprocess.Popen(words, env=callgrind.ENVIRONMENT, stdin=subprocess.PIPE, stdout=subprocess.PIPE)
         self.dumps = 0
 
     def give(self, lines):
@@ -154,7 +156,7 @@ def opened(asked, folder, name, lines):
 
 def counted(asked, folder, journal, words):
     out = os.path.join(folder, "one")
-    done = subprocess.run([*VALGRIND, f"--callgrind-out-file={out}", str(asked.graph), journal, *words], stdout=subprocess.DEVNULL, check=False)
+    done = subprocess.run([*VALGRIND, f"--callgrind-out-file={out}", str(asked.graph), journal, *words], env=callgrind.ENVIRONMENT, stdout=subprocess.DEVNULL, check=False)
     if done.returncode not in (0, 1):  # 1 if the step isn't there
         raise SystemExit(f"bench_graph: {words} ended with {done.returncode}")
     with open(out, encoding="utf-8") as text:

@@ -16,6 +16,8 @@ import re
 import subprocess
 import tempfile
 
+import callgrind
+
 HERE = os.path.dirname(os.path.abspath(__file__))
 PROGRAM = os.path.join(HERE, "../crates/rollback_program/out/rollback_program")
 FEW, MANY = 20, 40
@@ -61,7 +63,7 @@ def calls(program, lines, room, name):
     with open(session, "w", encoding="utf-8") as file:
         file.write("\n".join(lines) + "\n")
     with open(session, "rb") as stdin:
-        subprocess.run(["valgrind", "--tool=callgrind", "--compress-strings=no", "--compress-pos=no", f"--callgrind-out-file={out}", program],
+        subprocess.run([*callgrind.NAMED, f"--callgrind-out-file={out}", program], env=callgrind.ENVIRONMENT,
                        stdin=stdin, stdout=subprocess.DEVNULL, stderr=subprocess.DEVNULL, check=True)
     entered, callee = collections.Counter(), None
     with open(out, errors="replace") as lines_of:

@@ -17,6 +17,8 @@ import subprocess
 import sys
 import tempfile
 
+import callgrind
+
 HERE = os.path.dirname(os.path.abspath(__file__))
 PROGRAM = os.path.join(HERE, "../crates/rollback_program/out/rollback_program")
 NAMES = ["kept", "forgotten", "orders", "wide_map", "nested_forks", "hot_item", "middle_undo", "big_inputs", "listings"]
@@ -54,7 +56,7 @@ def costs(program, lines, room):
     """The instructions of each function itself."""
     out = os.path.join(room, f"out.{os.path.basename(lines)}")
     with open(lines, "rb") as stdin:
-        subprocess.run(["valgrind", "--tool=callgrind", "--compress-strings=no", "--compress-pos=no", f"--callgrind-out-file={out}", program],
+        subprocess.run([*callgrind.NAMED, f"--callgrind-out-file={out}", program], env=callgrind.ENVIRONMENT,
                        stdin=stdin, stdout=subprocess.DEVNULL, stderr=subprocess.DEVNULL, check=True)
     spent = collections.Counter()
     function, is_call = None, False
