@@ -1,7 +1,5 @@
 -- Texts cut at a separator.
-use Rattle.std.proofs.Common.{◌<◌, ◌≡◌, ℕ, Bool, true, false, not, cond, List, [], ◌∷◌, ◌++◌, refl, ap, ◌∙◌, ◌==◌, eq-eqb, MatchOption, Option, Some, None, Bor}
-use Rattle.std.specs.Option.{option_map}
-use Rattle.std.specs.List.{slice_split, onto_first}
+use Rattle.std.proofs.Common.{◌<◌, ◌≡◌, ℕ, true, not, List, [], ◌∷◌, ◌++◌, refl, ap, ◌∙◌, ◌==◌, eq-eqb, MatchOption, Option, Some, None, Bor}
 use Rattle.std.proofs.lemmas.Bool.{and_parts, not-true}
 use Rattle.std.proofs.lemmas.Str.Pattern.{IsSplitOnceResult, split_parts}
 use Rattle.step_names.proofs.Parts.{lacks, lacks_by_index}
@@ -26,18 +24,3 @@ cut_result c bs None h low = cut_none c bs (lacks_by_index c bs (split_parts c b
 cut_result c bs (Some x) h low =
     let k = split_parts c bs (Some x) h low in
     ap (cut_at c) k.0 ∙ cut_some c x.0.now x.1.now (lacks_by_index c x.0.now k.1)
-
-same_parts : (c : ℕ) (p q : List ℕ × List ℕ) → Some p ≡ Some q → p.0 ∷ slice_split (λ b. b == c) p.1 ≡ q.0 ∷ slice_split (λ b. b == c) q.1
-same_parts c p q h = let e : p ≡ q = cc in ap (λ (w : List ℕ × List ℕ). w.0 ∷ slice_split (λ b. b == c) w.1) e
-
--- the parts between all separators begin with what stands before the first
-pub cut_split : (c : ℕ) (bs : List ℕ) (p : List ℕ × List ℕ) → cut_at c bs ≡ Some p → slice_split (λ b. b == c) bs ≡ p.0 ∷ slice_split (λ b. b == c) p.1
-cut_split c [] p h = cc
-cut_split c (b ∷ bs) p h = by_test (b == c) (cut_at c bs) (λ q e. cut_split c bs q e) h
-  where
-    by_test : (r : Bool) (o : Option (List ℕ × List ℕ)) → ((q : List ℕ × List ℕ) → o ≡ Some q → slice_split (λ b. b == c) bs ≡ q.0 ∷ slice_split (λ b. b == c) q.1)
-        → cond r (Some ([], bs)) (option_map (λ parts. (b ∷ parts.0, parts.1)) o) ≡ Some p
-        → cond r ([] ∷ slice_split (λ b. b == c) bs) (onto_first b (slice_split (λ b. b == c) bs)) ≡ p.0 ∷ slice_split (λ b. b == c) p.1
-    by_test true o k h = same_parts c ([], bs) p h
-    by_test false None k h = cc
-    by_test false (Some q) k h = ap (onto_first b) (k q refl) ∙ same_parts c (b ∷ q.0, q.1) p h
