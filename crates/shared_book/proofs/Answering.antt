@@ -1,40 +1,32 @@
 -- What a call gives its caller, from what the book's call promises.
-use Rattle.std.proofs.Common.{◌≡◌, ℕ, ◌+◌, ◌≤◌, Bool, true, false, ◌&&◌, List, [], ◌∷◌, ◌++◌, length, append_assoc, append-nil, length-append, arith, Option, Some, None, Result, Ok, Err, refl, sym, ap, subst, ◌∙◌, inl, inr}
-use Rattle.std.specs.Prelude.{not}
+use Rattle.std.proofs.Common.{◌≡◌, ℕ, ◌+◌, ◌≤◌, List, [], ◌∷◌, ◌++◌, length, append_assoc, append-nil, length-append, arith, Option, Some, None, Result, Ok, Err, refl, sym, ap, subst, ◌∙◌, inl, inr}
 use Rattle.json_tree.specs.Data.{depth, most_levels}
 use Rattle.json_tree.specs.View.{data_of}
 use Rattle.json_tree.specs.declared.tree.Json.{Json}
 use Rattle.step_names.specs.Thread.{Thread}
 use Rattle.step_names.specs.declared.step.StepName.{StepName}
 use Rattle.book_events.specs.Fact.{Fact}
-use Rattle.book_log.specs.Answers.{Gives, GivesOr, HoldLacks, StepLacks, absent, found_answer, free_answer, from_step, is_enabled, hold_answer, start_answer, step_answer, undo_answer}
+use Rattle.book_log.specs.Answers.{Gives, GivesOr, HoldLacks, StepLacks, absent, found_answer, free_answer, from_step, hold_answer, start_answer, step_answer, undo_answer}
 use Rattle.book_log.specs.Legal.{IsAccepted, IsLegal}
 use Rattle.book_log.specs.Log.{Log, appended, log_facts}
 use Rattle.book_log.specs.declared.entry.Entry.{Entry}
 use Rattle.book_log.specs.declared.entry.Entry.TheVariants.{Start, Step as Stepped, Undo, Hold}
 use Rattle.book_log.specs.declared.moved.Moved.{Moved}
 use Rattle.book_log.specs.declared.refusal.Refusal.{Refusal}
-use Rattle.book_log.specs.declared.refusal.Refusal.TheVariants.{Memory}
 use Rattle.book_log.proofs.LegalRuns.{accepted_is_legal}
 use Rattle.book_events.specs.Commits.{AnswersCommit}
 use Rattle.book_events.specs.declared.commits.CommitRefusal.{CommitRefusal}
 use Rattle.book_events.specs.declared.commits.CommitRefusal.TheVariants as turn
 use Rattle.book_events.specs.Planned.{IsPlanned, WasPlanned}
 use Rattle.book_events.specs.Prepared.{Prepared}
-use Rattle.book_events.specs.FirstMove.{IsFirstToMove}
-use Rattle.book_events.specs.Tickets.{AnswersTicket, IsMoving}
 use Rattle.book_events.specs.declared.room.PlanRoom.{PlanRoom}
-use Rattle.book_events.specs.declared.ticket.Ticket.{Ticket}
-use Rattle.book_events.proofs.Answered.{given_ok, memory_alone, ok_gives, start_named, step_is_next}
+use Rattle.book_events.proofs.Answered.{given_ok, ok_gives, start_named, step_is_next}
 use Rattle.shared_book.specs.Numbers.{IsKnown, last_of}
-use Rattle.shared_book.specs.Away.{Away, is_thread_among}
+use Rattle.shared_book.specs.Away.{Away}
 use Rattle.shared_book.specs.Views.{DeskView, PassView, ExtendsLog, IsCounted}
-use Rattle.shared_book.specs.Calls.{GivesAfter, IsCause, IsCauseAt, IsNotAdmitted, IsRefusedFor, MaySee}
-use Rattle.shared_book.specs.Claims.{IsClaim, IsClaimable, thread_of}
+use Rattle.shared_book.specs.Calls.{GivesAfter, IsCause, IsCauseAt, MaySee}
 use Rattle.shared_book.specs.Commits.{IsNotTaken, IsNotTakenAt, shared_refusal}
 use Rattle.shared_book.specs.declared.receipt.Receipt.{Receipt}
-use Rattle.shared_book.specs.declared.refusal.SharedRefusal.{SharedRefusal}
-use Rattle.shared_book.specs.declared.refusal.SharedRefusal.TheVariants.{Refused, ForeignPass}
 
 -- ---- a pass and the desk, by their fields
 
@@ -131,10 +123,6 @@ pub lacking_cause_at : {T : Type 0} (lacks : Type 0) (answer : Result T Refusal)
 lacking_cause_at lacks answer e (inl h) = cause_at answer e h
 lacking_cause_at lacks answer e (inr h) = inl cc
 
-pub not_admitted : (begun at : Log) (had : PassView) (Cause : Refusal → Type 0) (e : SharedRefusal) → ExtendsLog begun at → IsLegal at → IsNotAdmitted at.entries had.seen (last_of had.receipts) e → Cause Memory → IsRefusedFor begun had Cause e
-not_admitted begun at had Cause (Refused e) goes legal not memory = subst Cause (sym not) memory
-not_admitted begun at had Cause (ForeignPass number there) goes legal not memory = (at, goes, legal, not)
-
 -- of a turn
 pub turn_not_taken : (begun at : Log) (had : PassView) (t : Thread) (p : Prepared) (r : CommitRefusal) → MaySee begun had at → AnswersCommit at t p (Err r) → IsNotTaken begun t p had (shared_refusal r)
 turn_not_taken begun at had t p (turn.Stale why q) may answer = (at, may, answer)
@@ -145,34 +133,6 @@ pub turn_not_taken_at : (at : Log) (had : PassView) (t : Thread) (p : Prepared) 
 turn_not_taken_at at had t p (turn.Stale why q) answer = answer
 turn_not_taken_at at had t p (turn.Held step q) answer = answer
 turn_not_taken_at at had t p (turn.Refused e) answer = inr answer
-
--- ---- claimed
-
-and_first : (b c : Bool) → (b && c) ≡ true → b ≡ true
-and_first true c h = refl
-and_first false c h = h
-
--- the least thread's ticket, and that it is refused for memory alone
-module _ (at : Log) (away : Away) (t : Thread) (first : IsFirstToMove at (is_thread_among away.outside) (Some t)) where
-  pub claimed : (k : Ticket) → AnswersTicket at t (Ok k) → IsClaim at away (Some k)
-  claimed k answer =
-      record {
-        least = subst (λ (u : Thread). IsFirstToMove at (is_thread_among away.outside) (Some u)) (sym answer.0) first;
-        ticket = subst (λ (u : Thread). IsMoving at u k.machine k.frame) (sym answer.0) answer.1;
-      }
-
-  pub not_claimed : (e : Refusal) → AnswersTicket at t (Err e) → e ≡ Memory
-  not_claimed e answer = memory_alone at t e (and_first (is_enabled at t) (not (is_thread_among away.outside t)) first.1) answer
-
-and_not : (b c : Bool) → (b && not c) ≡ true → c ≡ false
-and_not true true h = cc
-and_not true false h = refl
-and_not false c h = cc
-
--- it can be claimed
-pub free_to_claim : (at : Log) (away : Away) (found : Option Ticket) → IsClaim at away found → IsClaimable away (thread_of found)
-free_to_claim at away None claim = tt
-free_to_claim at away (Some k) claim = and_not (is_enabled at k.thread) (is_thread_among away.outside k.thread) claim.least.1
 
 -- ---- rollback
 

@@ -1,6 +1,6 @@
 -- Who is passed by was refused for a hold.
-use Rattle.std.proofs.Common.{◌≡◌, ℕ, true, false, List, [], ◌∷◌, ◌++◌, append_assoc, append-nil, Result, Ok, Err, refl, sym, ap, subst, ◌∙◌, inl, inr}
-use Rattle.std.specs.Prelude.{◌⊎◌, Option}
+use Rattle.std.proofs.Common.{◌≡◌, true, false, List, [], ◌∷◌, ◌++◌, append_assoc, append-nil, Result, Ok, Err, refl, sym, ap, subst, ◌∙◌, inl, inr}
+use Rattle.std.specs.Prelude.{◌⊎◌}
 use Rattle.step_names.specs.Thread.{Thread}
 use Rattle.step_names.specs.declared.step.StepName.{StepName}
 use Rattle.book_log.specs.Answers.{GivesOr, StepLacks, step_answer}
@@ -16,10 +16,8 @@ use Rattle.book_events.specs.Prepared.{Prepared}
 use Rattle.book_events.specs.declared.commits.CommitRefusal.{CommitRefusal}
 use Rattle.book_events.specs.declared.commits.CommitRefusal.TheVariants as turn
 use Rattle.shared_book.specs.Away.{AreMoves, Away, IsMove, PassesNoOther, WasRefused, WereRefused, is_passed}
-use Rattle.shared_book.specs.Calls.{IsNotAdmitted, is_held}
+use Rattle.shared_book.specs.Calls.{is_held}
 use Rattle.shared_book.specs.Commits.{is_turn_held, shared_refusal}
-use Rattle.shared_book.specs.declared.receipt.Receipt.{Receipt}
-use Rattle.shared_book.specs.declared.refusal.SharedRefusal.{SharedRefusal}
 use Rattle.shared_book.specs.declared.refusal.SharedRefusal.TheVariants as shared
 
 -- ---- a start or a step more
@@ -42,21 +40,10 @@ was_more log t e move w = record {
 pub were_more : (log now : Log) (a : Away) (e : Entry) → IsMove e → now ≡ appended log e → WereRefused log a → WereRefused now a
 were_more log now a e move is all = λ t h. subst (λ (s : Log). WasRefused s t) (sym is) (was_more log t e move (all t h))
 
--- the same log
-pub were_same : (log now : Log) (a : Away) → now ≡ log → WereRefused log a → WereRefused now a
-were_same log now a is all = subst (λ (s : Log). WereRefused s a) (sym is) all
-
 -- ---- who is passed by
 
 pub were_fewer : (log : Log) (a b : Away) → PassesNoOther a b → WereRefused log a → WereRefused log b
 were_fewer log a b fewer all = λ t h. all t (fewer t h)
-
-were_either : (log : Log) (a : Away) (t u : Thread) → WasRefused log u → WereRefused log a → (is_passed a t ≡ true) ⊎ (t ≡ u) → WasRefused log t
-were_either log a t u was all (inl h) = all t h
-were_either log a t u was all (inr h) = subst (WasRefused log) (sym h) was
-
-pub were_one : (log : Log) (a b : Away) (u : Thread) → ((t : Thread) → is_passed b t ≡ true → (is_passed a t ≡ true) ⊎ (t ≡ u)) → WasRefused log u → WereRefused log a → WereRefused log b
-were_one log a b u more was all = λ t h. were_either log a t u was all (more t h)
 
 pub were_none : (log : Log) (a : Away) → ((t : Thread) → is_passed a t ≡ false) → WereRefused log a
 were_none log a none = λ t h. let clash : true ≡ false = sym h ∙ none t in cc
@@ -109,11 +96,3 @@ pub held_turn : (log : Log) (t : Thread) (p : Prepared) (r : CommitRefusal) → 
 held_turn log t p (turn.Stale why prepared) legal answer h = cc
 held_turn log t p (turn.Held step prepared) legal answer h = was_now log t step legal (held_or (step_answer log t) step (StepLacks log t) answer.1)
 held_turn log t p (turn.Refused e) legal answer h = cc
-
--- a pass that isn't let in is not so refused
-pub not_held : (entries : List Entry) (seen : ℕ) (last : Option Receipt) (e : SharedRefusal) → IsNotAdmitted entries seen last e → is_held e ≡ false
-not_held entries seen last (shared.Refused e) h = ap tells_hold h
-not_held entries seen last (shared.ForeignPass number there) h = refl
-
-pub never_held : (entries : List Entry) (seen : ℕ) (last : Option Receipt) (e : SharedRefusal) (log : Log) (t : Thread) → IsNotAdmitted entries seen last e → is_held e ≡ true → WasRefused log t
-never_held entries seen last e log t h held = let clash : true ≡ false = sym held ∙ not_held entries seen last e h in cc

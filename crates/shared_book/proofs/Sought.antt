@@ -34,22 +34,11 @@ module _ (log : Log) (was now : Away) where
   sought None to more first is = λ t named less. fewer _ (is_thread_among was.outside t) (is_thread_among now.outside t) (more t) (first t named)
   sought (Some t) to more first is = none_up_to log (is_thread_among was.outside) (is_thread_among now.outside) t to more first is
 
-  -- a thread of an execution isn't left out any more
-  pub given_back : (exec : List ℕ) (from to : Thread) → ((t : Thread) → bytes_eq exec t.exec ≡ false → is_thread_among now.outside t ≡ is_thread_among was.outside t)
-      → GoesBack exec from to → NoneBefore log was from → NoneBefore log now to
-  given_back exec from to others back none t named less =
-      let k = back t less in
-      fewer _ (is_thread_among was.outside t) (is_thread_among now.outside t) (λ h. others t k.1 ∙ h) (none t named k.0)
-
 -- ---- an execution has changed
 
 pub none_elsewhere : (before after now : Log) (away : Away) (exec : List ℕ) (from to : Thread) → LeavesOthers exec before after → now ≡ after → GoesBack exec from to → NoneBefore before away from → NoneBefore now away to
 none_elsewhere before after now away exec from to leaves is back none =
     subst (λ (s : Log). NoneBefore s away to) (sym is) (none_left_out before after (is_thread_among away.outside) exec from to leaves back none)
-
--- the same log
-pub none_there_still : (log now : Log) (away : Away) (place : Thread) → now ≡ log → NoneBefore log away place → NoneBefore now away place
-none_there_still log now away place is none = subst (λ (s : Log). NoneBefore s away place) (sym is) none
 
 -- ---- claims
 
@@ -67,10 +56,6 @@ other_thread t u h = by (is_at (thread_cmp t) u) refl
 pub others_stay : (was now : Bool) (at : Bool) → now ≡ cond at false was → at ≡ false → now ≡ was
 others_stay was now true is h = cc
 others_stay was now false is h = is
-
-pub one_more : (was now at : Bool) → now ≡ cond at true was → was ≡ true → now ≡ true
-one_more was now true is h = is
-one_more was now false is h = is ∙ h
 
 -- what is so where a call isn't refused
 pub so_if_ok : {E : Type 0} (r : Result (Unit {0}) E) (P : Type 0) → is_err r ≡ false → OnOk r P → P
