@@ -1,61 +1,66 @@
 // Calls of the table: what each was given and what it answered; and which held step keeps a next move back.
 use crate::explaining::table_of;
 use crate::items::current_item;
-use answer_parts::books::turns::{Frame, Outcome, located};
-use answer_parts::books::{Access, Fact, Kind, StepRecord};
+use answer_parts::books::{Access, Fact, Frame, Kind, Outcome, StepRecord, located};
 use answer_parts::graph::{depends, record_at};
 use answer_parts::{
-    Asked, Move, Object, frame_before, frame_of, items_at, move_of, or_null, shared_machine_of,
+    Asked, Move, Object, frame_before, frame_of, items_around, move_of, shared_machine_of,
     step_value,
 };
 use asl_processing::{TurnFault, effective_input};
 use asl_tree::State;
-use attr_values::Item;
+use attr_values::{Item, Key};
 use explain::ready_turn;
-use item_store::{Answer, Call, Decided, decide};
+use item_store::{AccessMode, Answer, Call, Decided, decide};
 use json_tree::Json;
-use std::alloc::AllocError;
+use std::alloc::{AllocError, Global};
 use step_names::{StepName, ThreadName};
 
 /// Adds what a call was given, and its answer or its error; `null` of another step. Takes the time of one turn, and time in the number of the
 /// key's accesses.
-pub fn put_call(
-    asked: &Asked<'_>,
-    row: &mut Object,
-    kept: &StepRecord,
-    place: usize,
-) -> Result<(), AllocError> {
-    let mut input = None;
-    let mut answer = Json::Null;
-    let mut error = Json::Null;
-    if kept.fact.access.is_some() {
-        input = input_of(asked, kept)?;
-        match answer_of(asked, kept, place)? {
-            Some(Answer::Given(json)) => answer = json,
-            Some(Answer::Refused(name)) => error = Json::Text(name),
-            None => {}
-        }
+pub fn put_call(asked: &Asked<'_>, row: &mut Object, kept: &StepRecord, place: usize) {
+    if kept.fact.access.is_none() {
+        row.put_null("call");
+        put_answer(row, Ok(None));
+        return;
     }
-    row.put("call", or_null(input))?;
-    row.put("answer", answer)?;
-    row.put("error", error)
+    row.put("call", input_of(asked, kept));
+    put_answer(row, answer_of(asked, kept, place));
 }
 
-/// What a Task's state works on.
-fn input_of(asked: &Asked<'_>, kept: &StepRecord) -> Result<Option<Json>, AllocError> {
+fn put_answer(row: &mut Object, answer: Result<Option<Answer>, AllocError>) {
+    match answer {
+        Ok(Some(Answer::Given(json))) => {
+            row.put("answer", Ok(json));
+            row.put_null("error");
+        }
+        Ok(Some(Answer::Refused(name))) => {
+            row.put_null("answer");
+            row.put("error", Ok(Json::Text(name)));
+        }
+        Ok(None) => {
+            row.put_null("answer");
+            row.put_null("error");
+        }
+        Err(AllocError) => row.refuse(),
+    }
+}
+
+/// What a Task's state works on; `null` if that can't be told.
+fn input_of(asked: &Asked<'_>, kept: &StepRecord) -> Result<Json, AllocError> {
     let Some(frame) = frame_before(kept) else {
-        return Ok(None);
+        return Ok(Json::Null);
     };
     let Some(machine) = shared_machine_of(asked, &frame.level) else {
-        return Ok(None);
+        return Ok(Json::Null);
     };
     let Some((_, State::Task(task))) = located(machine.machine(), frame) else {
-        return Ok(None);
+        return Ok(Json::Null);
     };
     match effective_input(asked.alloc, &task.processing, &frame.raw) {
-        Ok(json) => Ok(Some(json)),
+        Ok(json) => Ok(json),
         Err(TurnFault::Memory) => Err(AllocError),
-        Err(TurnFault::Error(_)) => Ok(None),
+        Err(TurnFault::Error(_)) => Ok(Json::Null),
     }
 }
 
@@ -65,21 +70,24 @@ fn answer_of(
     kept: &StepRecord,
     place: usize,
 ) -> Result<Option<Answer>, AllocError> {
-    let (Some(frame), Some(access)) = (frame_before(kept), &kept.fact.access) else {
+    let Some(frame) = frame_before(kept) else {
         return Ok(None);
     };
-    let accesses = asked.book.history().accesses(asked.alloc, &access.key)?;
-    let Some(items) = items_at(asked, place, accesses.as_slice()) else {
+    let Some(items) = items_around(asked, kept, place)? else {
         return Ok(None);
     };
-    let Some(call) = call_of(asked, frame)? else {
-        return Ok(None);
-    };
+    match call_of(asked, frame)? {
+        Some(call) => answered(asked.alloc, call, items.before),
+        None => Ok(None),
+    }
+}
+
+fn answered(alloc: Global, call: Call, met: Option<&Item>) -> Result<Option<Answer>, AllocError> {
     let Decided {
         access: _,
         new,
         answer,
-    } = decide(asked.alloc, call, items.before)?;
+    } = decide(alloc, call, met)?;
     drop(new);
     Ok(Some(answer))
 }
@@ -104,31 +112,57 @@ fn call_of(asked: &Asked<'_>, frame: &Frame) -> Result<Option<Call>, AllocError>
     }
 }
 
+/// The key of a call; none if the call is of another table, or has no key.
+pub(crate) fn key_of_call(asked: &Asked<'_>, call: &Call) -> Result<Option<Key>, AllocError> {
+    let table = table_of(asked)?;
+    let key = table.key(call);
+    drop(table);
+    match key {
+        Ok(key) => Ok(Some(key)),
+        Err(_) => Ok(None),
+    }
+}
+
 // ---- holds
 
 /// The earliest step that is left of a hold and on which an execution's next move would depend directly; `null` if there is none.
 /// Takes the time of the hold's plan.
 pub fn held_step(asked: &Asked<'_>, exec: &ThreadName) -> Result<Json, AllocError> {
-    let records = asked.book.history();
     let Some(held) = asked.book.held() else {
         return Ok(Json::Null);
     };
-    let Some(at) = records.find(held) else {
+    let Some(at) = asked.book.history().find(held) else {
         return Ok(Json::Null);
     };
+    match next_fact(asked, exec)? {
+        Some(next) => {
+            let step = first_held(asked, at, &next);
+            drop(next);
+            step
+        }
+        None => Ok(Json::Null),
+    }
+}
+
+/// The earliest step of the plan of the one at a place on which a next move would depend.
+fn first_held(asked: &Asked<'_>, at: usize, next: &Fact) -> Result<Json, AllocError> {
+    let records = asked.book.history();
     if at >= records.len() {
         return Ok(Json::Null);
     }
-    let Some(next) = next_fact(asked, exec)? else {
-        return Ok(Json::Null);
-    };
     let left = records.plan(asked.alloc, at)?;
+    let step = first_needed(asked, left.places(), next);
+    drop(left);
+    step
+}
+
+fn first_needed(asked: &Asked<'_>, plan: &[usize], next: &Fact) -> Result<Json, AllocError> {
     // (the plan has the latest first)
-    for place in left.places().iter().rev() {
-        let Some(kept) = record_at(records, *place) else {
+    for place in plan.iter().rev() {
+        let Some(kept) = record_at(asked.book.history(), *place) else {
             continue;
         };
-        if depends(&kept.fact, &next) {
+        if depends(&kept.fact, next) {
             return step_value(asked.alloc, &kept.fact.name);
         }
     }
@@ -140,14 +174,26 @@ fn next_fact(asked: &Asked<'_>, exec: &ThreadName) -> Result<Option<Fact>, Alloc
     let Some(frame) = frame_of(asked.book, exec) else {
         return Ok(None);
     };
-    let (kind, access) = match move_of(asked, exec)? {
-        Some(Move::Join) => (Kind::Join, None),
-        Some(Move::Terminate) => (Kind::Terminate, None),
-        Some(Move::Step) => (Kind::Plain, next_access(asked, frame)?),
-        _ => return Ok(None),
+    match move_of(asked, exec)? {
+        Some(Move::Join) => fact_of(exec, frame, Kind::Join, None),
+        Some(Move::Terminate) => fact_of(exec, frame, Kind::Terminate, None),
+        Some(Move::Step) => fact_of(exec, frame, Kind::Plain, next_access(asked, frame)?),
+        _ => Ok(None),
+    }
+}
+
+fn fact_of(
+    exec: &ThreadName,
+    frame: &Frame,
+    kind: Kind,
+    access: Option<Access>,
+) -> Result<Option<Fact>, AllocError> {
+    let Ok(thread) = exec.copy() else {
+        drop(access);
+        return Err(AllocError);
     };
     let name = StepName {
-        thread: exec.copy()?,
+        thread,
         no: frame.count.saturating_add(1),
     };
     Ok(Some(Fact {
@@ -160,20 +206,48 @@ fn next_fact(asked: &Asked<'_>, exec: &ThreadName) -> Result<Option<Fact>, Alloc
 
 /// What a frame's next step would access, if it is a call of an item.
 fn next_access(asked: &Asked<'_>, frame: &Frame) -> Result<Option<Access>, AllocError> {
-    let Some(call) = call_of(asked, frame)? else {
-        return Ok(None);
+    match call_of(asked, frame)? {
+        Some(call) => access_of(asked, call),
+        None => Ok(None),
+    }
+}
+
+fn access_of(asked: &Asked<'_>, call: Call) -> Result<Option<Access>, AllocError> {
+    match key_of_call(asked, &call) {
+        Ok(Some(key)) => access_to(asked, call, key),
+        Ok(None) => {
+            drop(call);
+            Ok(None)
+        }
+        Err(AllocError) => {
+            drop(call);
+            Err(AllocError)
+        }
+    }
+}
+
+fn access_to(asked: &Asked<'_>, call: Call, key: Key) -> Result<Option<Access>, AllocError> {
+    match mode_of(asked, call, &key) {
+        Ok(mode) => Ok(Some(Access { key, mode })),
+        Err(AllocError) => {
+            drop(key);
+            Err(AllocError)
+        }
+    }
+}
+
+/// How a call would access the item of its key.
+fn mode_of(asked: &Asked<'_>, call: Call, key: &Key) -> Result<AccessMode, AllocError> {
+    let Ok(met) = current_item(asked, key) else {
+        drop(call);
+        return Err(AllocError);
     };
-    let table = table_of(asked)?;
-    let Ok(key) = table.key(&call) else {
-        return Ok(None);
-    };
-    let met: Option<&Item> = current_item(asked, &key)?;
     let Decided {
-        access: mode,
+        access,
         new,
         answer,
     } = decide(asked.alloc, call, met)?;
     drop(new);
     drop(answer);
-    Ok(Some(Access { key, mode }))
+    Ok(access)
 }

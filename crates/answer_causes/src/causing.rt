@@ -1,15 +1,17 @@
 // On which steps one depends, and what a rollback takes back.
 use answer_parts::books::{Kind, Saved, StepRecords};
 use answer_parts::graph::{
-    Cause, causes, plan_reasons, reason_at, reason_word, record_at, take_reason, why,
+    Cause, causes, plan_reasons, reason_at, reason_word, record_at, take_reason, thread_above, why,
 };
-use answer_parts::{Asked, Object, item_now, item_value, key_value, put_step_row, thread_value};
+use answer_parts::{
+    Asked, Object, Rows, ThreadNames, item_now, item_value, key_value, put_step_row,
+};
 use attr_values::{Item, Key};
 use item_store::AccessMode;
-use json_tree::{Json, JsonList};
-use std::alloc::{AllocError, Global};
-use std::collections::BTreeMap;
-use step_names::{StepName, ThreadName};
+use json_tree::Json;
+use std::alloc::AllocError;
+use std::collections::{BTreeMap, VecDeque};
+use step_names::StepName;
 
 /// The steps on which the one at a place depends, the latest first; of these alone those that wrote an item, and the starts, if so
 /// asked. Takes the time of [`causes`], and for each row that of [`put_step_row`].
@@ -19,19 +21,31 @@ pub fn causes_of(
     at: usize,
     writes: bool,
 ) -> Result<Json, AllocError> {
+    let mut answer = asked.answer();
+    answer.put_step("step", step);
+    answer.put("causes", causes_at(asked, at, writes));
+    answer.done()
+}
+
+fn causes_at(asked: &Asked<'_>, at: usize, writes: bool) -> Result<Json, AllocError> {
     let records = asked.book.history();
-    let mut rows = Vec::new(asked.alloc);
-    if at < records.len() {
-        for cause in causes(asked.alloc, records, at)? {
-            if !writes || is_source(records, cause.place) {
-                rows.push(cause_row(asked, records, cause)?)?;
-            }
+    if at >= records.len() {
+        return Rows::new(asked.alloc).done();
+    }
+    let found = causes(asked.alloc, records, at)?;
+    let rows = cause_rows(asked, found.as_slice(), writes);
+    drop(found);
+    rows
+}
+
+fn cause_rows(asked: &Asked<'_>, found: &[Cause], writes: bool) -> Result<Json, AllocError> {
+    let mut rows = Rows::new(asked.alloc);
+    for cause in found {
+        if !writes || is_source(asked.book.history(), cause.place) {
+            rows.push(cause_row(asked, *cause));
         }
     }
-    let mut answer = asked.answer()?;
-    answer.put_step("step", step)?;
-    answer.put_list("causes", rows)?;
-    Ok(answer.done())
+    rows.done()
 }
 
 /// Whether a step wrote an item, or is a start.
@@ -45,16 +59,17 @@ fn is_source(records: &StepRecords, place: usize) -> bool {
     }
 }
 
-fn cause_row(asked: &Asked<'_>, records: &StepRecords, cause: Cause) -> Result<Json, AllocError> {
+fn cause_row(asked: &Asked<'_>, cause: Cause) -> Result<Json, AllocError> {
+    let records = asked.book.history();
     let mut row = Object::new(asked.alloc);
     if let Some(kept) = record_at(records, cause.place) {
-        put_step_row(asked, &mut row, kept, cause.place)?;
+        put_step_row(asked, &mut row, kept, cause.place);
     }
     if let Some(kept) = record_at(records, cause.needed_for) {
-        row.put_step("needed_for", &kept.fact.name)?;
+        row.put_step("needed_for", &kept.fact.name);
     }
-    row.put_text("reason", reason_word(cause.reason))?;
-    Ok(row.done())
+    row.put_text("reason", reason_word(cause.reason));
+    row.done()
 }
 
 // ---- plans
@@ -62,136 +77,188 @@ fn cause_row(asked: &Asked<'_>, records: &StepRecords, cause: Cause) -> Result<J
 /// What a rollback of the step at a place takes back, with a head: how many steps of which executions, and the items that change. Takes the
 /// time of the plan and of [`plan_reasons`], and for each row that of [`put_step_row`].
 pub fn plan_of(asked: &Asked<'_>, step: &StepName, at: usize) -> Result<Json, AllocError> {
+    let mut answer = asked.answer();
+    answer.put_step("step", step);
+    put_plan_at(asked, &mut answer, at);
+    answer.done()
+}
+
+fn put_plan_at(asked: &Asked<'_>, answer: &mut Object, at: usize) {
     let records = asked.book.history();
-    let mut rows = Vec::new(asked.alloc);
-    let mut executions = BTreeMap::new(asked.alloc);
-    let mut items = BTreeMap::new(asked.alloc);
-    if at < records.len() {
-        let plan = records.plan(asked.alloc, at)?;
-        // the latest comes last here, and first in the plan
-        let mut reasons = plan_reasons(asked.alloc, records, plan.places())?;
-        for place in plan.places() {
-            let reason = take_reason(&mut reasons, *place);
-            rows.push(planned_row(asked, records, *place, reason)?)?;
-            note(asked.alloc, records, *place, &mut executions, &mut items)?;
-        }
+    if at >= records.len() {
+        put_plan(asked, answer, &[]);
+        return;
     }
-    let mut answer = asked.answer()?;
-    answer.put_step("step", step)?;
-    answer.put_number("count", rows.len())?;
-    answer.put_list("steps", rows)?;
-    answer.put("executions", names_in(asked, &executions)?)?;
-    answer.put("items", changes_in(asked, &items)?)?;
-    Ok(answer.done())
+    match records.plan(asked.alloc, at) {
+        Ok(plan) => {
+            put_plan(asked, answer, plan.places());
+            drop(plan);
+        }
+        Err(AllocError) => answer.refuse(),
+    }
+}
+
+fn put_plan(asked: &Asked<'_>, answer: &mut Object, plan: &[usize]) {
+    answer.put_number("count", plan.len());
+    answer.put("steps", steps_in(asked, plan));
+    answer.put("executions", executions_in(asked, plan));
+    answer.put("items", items_in(asked, plan));
+}
+
+fn steps_in(asked: &Asked<'_>, plan: &[usize]) -> Result<Json, AllocError> {
+    // the latest comes last here, and first in the plan
+    let mut reasons = plan_reasons(asked.alloc, asked.book.history(), plan)?;
+    let rows = planned_rows(asked, plan, &mut reasons);
+    drop(reasons);
+    rows
+}
+
+fn planned_rows(
+    asked: &Asked<'_>,
+    plan: &[usize],
+    reasons: &mut Vec<Cause>,
+) -> Result<Json, AllocError> {
+    let mut rows = Rows::new(asked.alloc);
+    for place in plan {
+        let reason = take_reason(reasons, *place);
+        rows.push(planned_row(asked, *place, reason));
+    }
+    rows.done()
 }
 
 /// A step of a plan, with the latest step of the plan on which it depends, and why.
-fn planned_row(
-    asked: &Asked<'_>,
-    records: &StepRecords,
-    place: usize,
-    reason: Option<Cause>,
-) -> Result<Json, AllocError> {
+fn planned_row(asked: &Asked<'_>, place: usize, reason: Option<Cause>) -> Result<Json, AllocError> {
     let mut row = Object::new(asked.alloc);
-    let Some(kept) = record_at(records, place) else {
-        return Ok(row.done());
-    };
-    put_step_row(asked, &mut row, kept, place)?;
+    if let Some(kept) = record_at(asked.book.history(), place) {
+        put_step_row(asked, &mut row, kept, place);
+        put_cause(asked.book.history(), &mut row, reason);
+    }
+    row.done()
+}
+
+fn put_cause(records: &StepRecords, row: &mut Object, reason: Option<Cause>) {
     match reason {
         Some(cause) => {
             if let Some(other) = record_at(records, cause.place) {
-                row.put_step("after", &other.fact.name)?;
+                row.put_step("after", &other.fact.name);
             }
-            row.put_text("reason", reason_word(cause.reason))?;
+            row.put_text("reason", reason_word(cause.reason));
         }
         None => {
-            row.put("after", Json::Null)?;
-            row.put("reason", Json::Null)?;
+            row.put_null("after");
+            row.put_null("reason");
         }
     }
-    Ok(row.done())
 }
 
+fn executions_in(asked: &Asked<'_>, plan: &[usize]) -> Result<Json, AllocError> {
+    let mut executions = ThreadNames::new(asked.alloc);
+    for place in plan {
+        if let Some(kept) = record_at(asked.book.history(), *place) {
+            executions.take(thread_above(asked.alloc, &kept.fact.name.thread, 0));
+        }
+    }
+    executions.done()
+}
+
+/// The items that a plan gives back: of each key a write's place, and the item that this replaced.
 type Changed<'a> = BTreeMap<Key, (usize, Option<&'a Item>)>;
 
-/// Notes the execution of a planned step, and of a write the item that it gives back. The earliest write comes last, and decides.
-fn note<'a>(
-    alloc: Global,
-    records: &'a StepRecords,
-    place: usize,
-    executions: &mut BTreeMap<ThreadName, ()>,
+/// The items that a plan's writes change: each as it is now, and as it is then.
+fn items_in(asked: &Asked<'_>, plan: &[usize]) -> Result<Json, AllocError> {
+    let mut items = BTreeMap::new(asked.alloc);
+    let changes = match note_writes(asked, plan, &mut items) {
+        Ok(()) => changes_in(asked, &items),
+        Err(AllocError) => Err(AllocError),
+    };
+    drop(items);
+    changes
+}
+
+/// Notes of each write the item that it gives back. The earliest write of a key comes last, and decides.
+fn note_writes<'a>(
+    asked: &Asked<'a>,
+    plan: &[usize],
     items: &mut Changed<'a>,
 ) -> Result<(), AllocError> {
-    let Some(kept) = record_at(records, place) else {
-        return Ok(());
-    };
-    let exec = answer_parts::graph::thread_above(alloc, &kept.fact.name.thread, 0)?;
-    executions.insert(exec, ())?;
-    if let (Some(access), Saved::Called { old, .. }) = (&kept.fact.access, &kept.saved) {
-        if matches!(access.mode, AccessMode::Write) {
-            items.insert(access.key.copy()?, (place, old.as_ref()))?;
+    for place in plan {
+        let Some(kept) = record_at(asked.book.history(), *place) else {
+            continue;
+        };
+        if let (Some(access), Saved::Called { old, .. }) = (&kept.fact.access, &kept.saved) {
+            if matches!(access.mode, AccessMode::Write) {
+                items.insert(access.key.copy()?, (*place, old.as_ref()))?;
+            }
         }
     }
     Ok(())
 }
 
-fn names_in(asked: &Asked<'_>, executions: &BTreeMap<ThreadName, ()>) -> Result<Json, AllocError> {
-    let mut names = Vec::new(asked.alloc);
-    for (exec, _) in executions.iter() {
-        names.push(thread_value(asked.alloc, exec)?)?;
-    }
-    Ok(Json::List(JsonList::from_vec(names)?))
-}
-
-/// The items that a plan's writes change: each as it is now, and as it is then.
 fn changes_in(asked: &Asked<'_>, items: &Changed<'_>) -> Result<Json, AllocError> {
-    let records = asked.book.history();
-    let mut changes = Vec::new(asked.alloc);
-    for (key, (place, old)) in items.iter() {
-        let now = match record_at(records, *place) {
+    let mut changes = Rows::new(asked.alloc);
+    for (key, (place, then)) in items.iter() {
+        let now = match record_at(asked.book.history(), *place) {
             Some(kept) => item_now(asked, kept),
             None => None,
         };
-        let now = item_value(asked.alloc, now)?;
-        let then = item_value(asked.alloc, *old)?;
-        if now == then {
-            continue;
+        if now != *then {
+            changes.push(change_row(asked, key, now, *then));
         }
-        let mut change = Object::new(asked.alloc);
-        change.put("key", key_value(asked, key)?)?;
-        change.put("now", now)?;
-        change.put("then", then)?;
-        changes.push(change.done())?;
     }
-    Ok(Json::List(JsonList::from_vec(changes)?))
+    changes.done()
 }
+
+fn change_row(
+    asked: &Asked<'_>,
+    key: &Key,
+    now: Option<&Item>,
+    then: Option<&Item>,
+) -> Result<Json, AllocError> {
+    let mut change = Object::new(asked.alloc);
+    change.put("key", key_value(asked, key));
+    change.put("now", item_value(asked.alloc, now));
+    change.put("then", item_value(asked.alloc, then));
+    change.done()
+}
+
+// ---- chains
 
 /// A shortest chain of direct dependences from one step to another; nothing if there is none. Takes the time of [`why`], and for
 /// each row that of [`put_step_row`].
 pub fn chain_of(asked: &Asked<'_>, from: usize, to: usize) -> Result<Option<Json>, AllocError> {
-    let records = asked.book.history();
-    let Some(chain) = why(asked.alloc, records, from, to)? else {
+    let Some(chain) = why(asked.alloc, asked.book.history(), from, to)? else {
         return Ok(None);
     };
-    let mut rows = Vec::new(asked.alloc);
+    let mut answer = asked.answer();
+    answer.put("chain", chain_rows(asked, &chain));
+    drop(chain);
+    Ok(Some(answer.done()?))
+}
+
+fn chain_rows(asked: &Asked<'_>, chain: &VecDeque<usize>) -> Result<Json, AllocError> {
+    let mut rows = Rows::new(asked.alloc);
     let mut before = None;
     for place in chain.iter() {
-        let mut row = Object::new(asked.alloc);
-        if let Some(kept) = record_at(records, *place) {
-            put_step_row(asked, &mut row, kept, *place)?;
-        }
-        let reason = match before {
-            Some(earlier) => reason_at(records, earlier, *place),
-            None => None,
-        };
-        match reason {
-            Some(reason) => row.put_text("reason", reason_word(reason))?,
-            None => row.put("reason", Json::Null)?,
-        }
-        rows.push(row.done())?;
+        rows.push(chained_row(asked, before, *place));
         before = Some(*place);
     }
-    let mut answer = asked.answer()?;
-    answer.put_list("chain", rows)?;
-    Ok(Some(answer.done()))
+    rows.done()
+}
+
+/// A step of a chain, and why it depends on the one before.
+fn chained_row(asked: &Asked<'_>, before: Option<usize>, place: usize) -> Result<Json, AllocError> {
+    let records = asked.book.history();
+    let mut row = Object::new(asked.alloc);
+    if let Some(kept) = record_at(records, place) {
+        put_step_row(asked, &mut row, kept, place);
+    }
+    let reason = match before {
+        Some(earlier) => reason_at(records, earlier, place),
+        None => None,
+    };
+    match reason {
+        Some(reason) => row.put_text("reason", reason_word(reason)),
+        None => row.put_null("reason"),
+    }
+    row.done()
 }

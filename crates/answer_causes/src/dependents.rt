@@ -1,20 +1,42 @@
 // Which later steps depend directly on one.
 use answer_parts::books::StepRecords;
-use answer_parts::graph::{Reason, reason_at, reason_word, record_at};
-use answer_parts::{Asked, Object, near_of};
-use json_tree::{Json, JsonList};
+use answer_parts::graph::{Reason, reason_at, record_at};
+use answer_parts::{Asked, Rows, near_of, reason_row, record_in};
+use json_tree::Json;
 use std::alloc::AllocError;
 use std::collections::BTreeMap;
-use step_names::StepName;
+
+type Later = BTreeMap<usize, ()>;
 
 /// The later steps that depend directly on the one at a place, as a picture has them: a list of names, each with the reason. Takes time in the
 /// number of the later steps of its execution and of the later accesses of its key, and for each of them what [`near_of`] takes.
 pub fn dependents_of(asked: &Asked<'_>, place: usize) -> Result<Json, AllocError> {
+    let mut later = BTreeMap::new(asked.alloc);
+    let rows = match add_later(asked, place, &mut later) {
+        Ok(()) => dependent_rows(asked, place, &later),
+        Err(AllocError) => Err(AllocError),
+    };
+    drop(later);
+    rows
+}
+
+fn dependent_rows(asked: &Asked<'_>, place: usize, later: &Later) -> Result<Json, AllocError> {
+    let mut rows = Rows::new(asked.alloc);
+    if push_dependents(asked, place, later, &mut rows).is_err() {
+        rows.refuse();
+    }
+    rows.done()
+}
+
+fn push_dependents(
+    asked: &Asked<'_>,
+    place: usize,
+    later: &Later,
+    rows: &mut Rows,
+) -> Result<(), AllocError> {
     let records = asked.book.history();
-    let later = later_than(asked, place)?;
-    let behind = first_behind(asked, place, &later)?;
-    let mut rows = Vec::new(asked.alloc);
-    for (other, _) in later.iter() {
+    let behind = first_behind(asked, place, later)?;
+    for (other, ()) in later.iter() {
         let (Some(kept), Some(reason)) = (
             record_at(records, *other),
             reason_at(records, place, *other),
@@ -22,44 +44,61 @@ pub fn dependents_of(asked: &Asked<'_>, place: usize) -> Result<Json, AllocError
             continue;
         };
         if behind == Some(*other) || is_near(asked, place, *other)? {
-            let mut row = Object::new(asked.alloc);
-            row.put_step("step", &kept.fact.name)?;
-            row.put_text("reason", reason_word(reason))?;
-            rows.push(row.done())?;
+            rows.push(reason_row(asked.alloc, &kept.fact.name, reason));
         }
     }
-    Ok(Json::List(JsonList::from_vec(rows)?))
+    Ok(())
 }
 
 /// Whether a place is among the nearest on which the step at a later one depends.
 fn is_near(asked: &Asked<'_>, place: usize, later: usize) -> Result<bool, AllocError> {
-    for (earlier, _) in near_of(asked, later)? {
-        if earlier == place {
-            return Ok(true);
-        }
-    }
-    Ok(false)
+    let near = near_of(asked, later)?;
+    let is_among = has_place(near.as_slice(), place);
+    drop(near);
+    Ok(is_among)
 }
 
-/// The later steps that may depend on the one at a place: those of its execution, and those that accessed its key.
-fn later_than(asked: &Asked<'_>, place: usize) -> Result<BTreeMap<usize, ()>, AllocError> {
-    let records = asked.book.history();
-    let mut later = BTreeMap::new(asked.alloc);
-    if let Some(kept) = record_at(records, place) {
-        for other in &records.of_execution(asked.alloc, kept.fact.name.thread.exec())? {
-            if *other > place {
-                later.insert(*other, ())?;
-            }
-        }
-        if let Some(access) = &kept.fact.access {
-            for other in &records.accesses(asked.alloc, &access.key)? {
-                if *other > place {
-                    later.insert(*other, ())?;
-                }
-            }
+fn has_place(near: &[(usize, Reason)], place: usize) -> bool {
+    for (earlier, _) in near {
+        if *earlier == place {
+            return true;
         }
     }
-    Ok(later)
+    false
+}
+
+/// Adds the later steps that may depend on the one at a place: those of its execution, and those that accessed its key.
+fn add_later(asked: &Asked<'_>, place: usize, later: &mut Later) -> Result<(), AllocError> {
+    let records = asked.book.history();
+    let Some(kept) = record_at(records, place) else {
+        return Ok(());
+    };
+    let exec = kept.fact.name.thread.exec();
+    add_behind(later, records.of_execution(asked.alloc, exec), place)?;
+    match &kept.fact.access {
+        Some(access) => add_behind(later, records.accesses(asked.alloc, &access.key), place),
+        None => Ok(()),
+    }
+}
+
+fn add_behind(
+    later: &mut Later,
+    places: Result<Vec<usize>, AllocError>,
+    place: usize,
+) -> Result<(), AllocError> {
+    let places = places?;
+    let added = add_places(later, places.as_slice(), place);
+    drop(places);
+    added
+}
+
+fn add_places(later: &mut Later, places: &[usize], place: usize) -> Result<(), AllocError> {
+    for other in places {
+        if *other > place {
+            later.insert(*other, ())?;
+        }
+    }
+    Ok(())
 }
 
 /// Of a branch's last step, the first move behind the first barrier that stands for the branch: of those that waited for it, the one that waited
@@ -67,22 +106,19 @@ fn later_than(asked: &Asked<'_>, place: usize) -> Result<BTreeMap<usize, ()>, Al
 fn first_behind(
     asked: &Asked<'_>,
     place: usize,
-    later: &BTreeMap<usize, ()>,
+    later: &Later,
 ) -> Result<Option<usize>, AllocError> {
     let records = asked.book.history();
     let Some(kept) = record_at(records, place) else {
         return Ok(None);
     };
-    let next = StepName {
-        thread: kept.fact.name.thread.copy()?,
-        no: kept.fact.name.no.saturating_add(1),
-    };
-    if records.find(&next).is_some() {
+    let name = &kept.fact.name;
+    if record_in(asked, name.thread.copy()?, name.no.saturating_add(1)).is_some() {
         return Ok(None);
     }
-    let depth = kept.fact.name.thread.path().len();
+    let depth = name.thread.path().len();
     let mut least: Option<(u32, usize)> = None;
-    for (other, _) in later.iter() {
+    for (other, ()) in later.iter() {
         if let Some(last) = waited_under(records, place, *other, depth) {
             if !matches!(least, Some((fewest, _)) if fewest <= last) {
                 least = Some((last, *other));

@@ -1,11 +1,11 @@
 // Why a thread failed, or why its next move would fail.
+use crate::calls::key_of_call;
 use crate::items::current_item;
 use crate::reasons::why_value;
-use answer_parts::books::turns::{Frame, Outcome, Phase, Prepared};
-use answer_parts::books::{Saved, StepRecord};
+use answer_parts::books::{Fault, Frame, Outcome, Phase, Prepared, Saved, StepRecord};
 use answer_parts::graph::{branch_of, closed_threads};
 use answer_parts::{
-    Asked, Move, closed_frame, frame_of, items_at, move_of, record_of, shared_machine_of,
+    Asked, Move, Rows, closed_frame, frame_of, items_around, move_of, record_of, shared_machine_of,
 };
 use attr_values::Item;
 use explain::{Why, explain_branch, explain_join, explain_turn, ready_turn};
@@ -24,15 +24,18 @@ pub fn explained(asked: &Asked<'_>, thread: &ThreadName) -> Result<Option<Json>,
             None => return Ok(None),
         },
     };
-    let why = match &frame.phase {
-        Phase::Done(_) => Json::Null,
-        Phase::Failed(_) => of_last_step(asked, thread, frame)?,
-        Phase::Ready => of_next_step(asked, frame)?,
-        Phase::Parked(branches, _) => of_next_closing(asked, thread, frame, *branches)?,
-    };
-    let mut answer = asked.answer()?;
-    answer.put("why", why)?;
-    Ok(Some(answer.done()))
+    let mut answer = asked.answer();
+    answer.put("why", why_of(asked, thread, frame));
+    Ok(Some(answer.done()?))
+}
+
+fn why_of(asked: &Asked<'_>, thread: &ThreadName, frame: &Frame) -> Result<Json, AllocError> {
+    match &frame.phase {
+        Phase::Done(_) => Ok(Json::Null),
+        Phase::Failed(_) => of_last_step(asked, thread, frame),
+        Phase::Ready => of_next_step(asked, frame),
+        Phase::Parked(branches, _) => of_next_closing(asked, thread, frame, *branches),
+    }
 }
 
 // ---- the step that failed
@@ -43,32 +46,32 @@ fn of_last_step(asked: &Asked<'_>, thread: &ThreadName, frame: &Frame) -> Result
         thread: thread.copy()?,
         no: frame.count,
     };
-    let Some(kept) = record_of(asked, &step) else {
-        return Ok(Json::Null);
+    let why = match record_of(asked, &step) {
+        Some(kept) => why_value(asked, why_at(asked, kept), Some(&step)),
+        None => Ok(Json::Null),
     };
-    let why = match &kept.saved {
-        Saved::Framed(before) => turn_of(asked, before, None)?,
-        Saved::Called { frame: before, .. } => turn_of(asked, before, met_by(asked, kept)?)?,
+    drop(step);
+    why
+}
+
+fn why_at(asked: &Asked<'_>, kept: &StepRecord) -> Result<Option<Why>, AllocError> {
+    match &kept.saved {
+        Saved::Framed(before) => turn_of(asked, before, None),
+        Saved::Called { frame: before, .. } => turn_of(asked, before, met_by(asked, kept)?),
         Saved::Closed {
             frame: before,
             kids: _,
-        } => closing_of(asked, kept, before)?,
-        Saved::Started | Saved::Forked(_) => None,
-    };
-    why_value(asked, why, Some(&step))
+        } => closing_of(asked, kept, before),
+        Saved::Started | Saved::Forked(_) => Ok(None),
+    }
 }
 
 /// The item that a call met.
 fn met_by<'a>(asked: &Asked<'a>, kept: &StepRecord) -> Result<Option<&'a Item>, AllocError> {
-    let Some(access) = &kept.fact.access else {
+    let Some(place) = asked.book.history().find(&kept.fact.name) else {
         return Ok(None);
     };
-    let records = asked.book.history();
-    let Some(place) = records.find(&kept.fact.name) else {
-        return Ok(None);
-    };
-    let accesses = records.accesses(asked.alloc, &access.key)?;
-    match items_at(asked, place, accesses.as_slice()) {
+    match items_around(asked, kept, place)? {
         Some(items) => Ok(items.before),
         None => Ok(None),
     }
@@ -80,26 +83,57 @@ fn closing_of(
     kept: &StepRecord,
     before: &Frame,
 ) -> Result<Option<Why>, AllocError> {
-    let name = &kept.fact.name;
-    let closed = closed_threads(asked.alloc, kept)?;
-    let mut frames = Vec::new(asked.alloc);
     let Phase::Parked(branches, _) = &before.phase else {
         return Ok(None);
     };
+    let closed = closed_threads(asked.alloc, kept)?;
+    let mut frames = Vec::new(asked.alloc);
+    let why = match push_closed(
+        asked,
+        &kept.fact.name,
+        *branches,
+        closed.as_slice(),
+        &mut frames,
+    ) {
+        Ok(()) => closed_by(asked, before, frames.as_slice()),
+        Err(AllocError) => Err(AllocError),
+    };
+    drop(frames);
+    drop(closed);
+    why
+}
+
+/// The frames of a fork's branches, in the order of these, among those that a step took away.
+fn push_closed<'a>(
+    asked: &Asked<'_>,
+    closing: &StepName,
+    branches: u32,
+    closed: &[(ThreadName, &'a Frame)],
+    frames: &mut Vec<&'a Frame>,
+) -> Result<(), AllocError> {
     // the fork is the step before
-    let fork = name.no.saturating_sub(1);
-    for index in 0..*branches {
-        let Some(branch) = branch_of(asked.alloc, &name.thread, fork, index)? else {
+    let fork = closing.no.saturating_sub(1);
+    for index in 0..branches {
+        let Some(branch) = branch_of(asked.alloc, &closing.thread, fork, index)? else {
             break;
         };
-        for (thread, frame) in &closed {
-            if *thread == branch {
-                frames.push(*frame)?;
-                break;
-            }
+        if let Some(frame) = frame_among(closed, branch) {
+            frames.push(frame)?;
         }
     }
-    closed_by(asked, before, frames.as_slice())
+    Ok(())
+}
+
+fn frame_among<'a>(closed: &[(ThreadName, &'a Frame)], branch: ThreadName) -> Option<&'a Frame> {
+    let mut found = None;
+    for (thread, frame) in closed {
+        if *thread == branch {
+            found = Some(*frame);
+            break;
+        }
+    }
+    drop(branch);
+    found
 }
 
 // ---- the next move
@@ -112,8 +146,11 @@ fn of_next_step(asked: &Asked<'_>, frame: &Frame) -> Result<Json, AllocError> {
     let Some(prepared) = ready_turn(asked.alloc, machine, frame)? else {
         return Ok(Json::Null);
     };
-    let item = called_now(asked, &prepared)?;
-    let why = explain_prepared(asked, &prepared, item)?;
+    let why = match called_now(asked, &prepared) {
+        Ok(item) => explain_prepared(asked, &prepared, item),
+        Err(AllocError) => Err(AllocError),
+    };
+    drop(prepared);
     why_value(asked, why, None)
 }
 
@@ -122,10 +159,13 @@ fn called_now<'a>(asked: &Asked<'a>, prepared: &Prepared) -> Result<Option<&'a I
     let Outcome::Call(call) = prepared.outcome() else {
         return Ok(None);
     };
-    let table = table_of(asked)?;
-    match table.key(call) {
-        Ok(key) => current_item(asked, &key),
-        Err(_) => Ok(None),
+    match key_of_call(asked, call)? {
+        Some(key) => {
+            let item = current_item(asked, &key);
+            drop(key);
+            item
+        }
+        None => Ok(None),
     }
 }
 
@@ -141,16 +181,37 @@ fn of_next_closing(
         _ => return Ok(Json::Null),
     }
     let mut frames = Vec::new(asked.alloc);
+    let why = match push_open(asked, thread, frame.count, branches, &mut frames) {
+        Ok(()) => closed_by(asked, frame, frames.as_slice()),
+        Err(AllocError) => Err(AllocError),
+    };
+    drop(frames);
+    why_value(asked, why, None)
+}
+
+/// The frames that a fork's branches have now.
+fn push_open<'a>(
+    asked: &Asked<'a>,
+    thread: &ThreadName,
+    fork: u32,
+    branches: u32,
+    frames: &mut Vec<&'a Frame>,
+) -> Result<(), AllocError> {
     for index in 0..branches {
-        let Some(branch) = branch_of(asked.alloc, thread, frame.count, index)? else {
+        let Some(branch) = branch_of(asked.alloc, thread, fork, index)? else {
             break;
         };
-        if let Some(frame) = frame_of(asked.book, &branch) {
+        if let Some(frame) = frame_now(asked, branch) {
             frames.push(frame)?;
         }
     }
-    let why = closed_by(asked, frame, frames.as_slice())?;
-    why_value(asked, why, None)
+    Ok(())
+}
+
+fn frame_now<'a>(asked: &Asked<'a>, thread: ThreadName) -> Option<&'a Frame> {
+    let frame = frame_of(asked.book, &thread);
+    drop(thread);
+    frame
 }
 
 // ---- turns and closings
@@ -165,7 +226,11 @@ fn turn_of(
         return Ok(None);
     };
     match ready_turn(asked.alloc, machine, frame)? {
-        Some(prepared) => explain_prepared(asked, &prepared, item),
+        Some(prepared) => {
+            let why = explain_prepared(asked, &prepared, item);
+            drop(prepared);
+            why
+        }
         None => Ok(None),
     }
 }
@@ -183,13 +248,20 @@ fn explain_prepared(
         return Ok(None);
     };
     let table = table_of(asked)?;
-    explain_turn(asked.alloc, prepared, &definition.value, &table, item)
+    let why = explain_turn(asked.alloc, prepared, &definition.value, &table, item);
+    drop(table);
+    why
 }
 
 /// The book's table without its items.
 pub(crate) fn table_of(asked: &Asked<'_>) -> Result<ItemStore, AllocError> {
     let (begin, _) = asked.book.entries();
-    Ok(ItemStore::new(asked.alloc, begin.table.copy()?, begin.schema.copy()?))
+    let table = begin.table.copy()?;
+    let Ok(schema) = begin.schema.copy() else {
+        drop(table);
+        return Err(AllocError);
+    };
+    Ok(ItemStore::new(asked.alloc, table, schema))
 }
 
 /// Why the end of a fork with these branches fails: by the error of the first branch that failed, or by what their outputs come to.
@@ -198,24 +270,42 @@ fn closed_by(
     frame: &Frame,
     branches: &[&Frame],
 ) -> Result<Option<Why>, AllocError> {
+    let alloc = asked.alloc;
     let Some(machine) = shared_machine_of(asked, &frame.level) else {
         return Ok(None);
     };
     let Some(definition) = asked.index.definitions().get(&frame.level.machine) else {
         return Ok(None);
     };
-    let mut outputs = Vec::new(asked.alloc);
+    match first_failed(branches) {
+        Some((index, fault)) => {
+            explain_branch(alloc, machine, frame, &definition.value, index, fault)
+        }
+        None => {
+            let outputs = outputs_of(asked, branches)?;
+            explain_join(alloc, machine, frame, &definition.value, outputs)
+        }
+    }
+}
+
+/// The first branch that failed, by its number.
+fn first_failed<'a>(branches: &[&'a Frame]) -> Option<(u32, &'a Fault)> {
     let mut index: u32 = 0;
     for branch in branches {
-        match &branch.phase {
-            Phase::Failed(fault) => {
-                return explain_branch(asked.alloc, machine, frame, &definition.value, index, fault);
-            }
-            Phase::Done(output) => outputs.push(output.copy()?)?,
-            _ => {}
+        if let Phase::Failed(fault) = &branch.phase {
+            return Some((index, fault));
         }
         index = index.saturating_add(1);
     }
-    let outputs = JsonList::from_vec(outputs)?;
-    explain_join(asked.alloc, machine, frame, &definition.value, outputs)
+    None
+}
+
+fn outputs_of(asked: &Asked<'_>, branches: &[&Frame]) -> Result<JsonList, AllocError> {
+    let mut outputs = Rows::new(asked.alloc);
+    for branch in branches {
+        if let Phase::Done(output) = &branch.phase {
+            outputs.push(output.copy());
+        }
+    }
+    outputs.list()
 }

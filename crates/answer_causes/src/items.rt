@@ -2,9 +2,10 @@
 use answer_parts::books::StepRecord;
 use answer_parts::graph::record_at;
 use answer_parts::{
-    Asked, Object, Page, access_word, before_access, item_now, item_value, key_value, step_value,
+    Asked, Object, Page, Rows, access_word, before_access, item_now, item_value, key_value,
+    step_value,
 };
-use attr_values::{Item, Key, key_of};
+use attr_values::{Item, Key, KeySchema, key_of};
 use item_store::AccessMode;
 use json_tree::Json;
 use std::alloc::AllocError;
@@ -18,36 +19,68 @@ pub fn item_of(
     key: &Key,
     page: &Page<StepName>,
 ) -> Result<Option<Json>, AllocError> {
-    let records = asked.book.history();
-    let accesses = records.accesses(asked.alloc, key)?;
-    let now = current(asked, key, accesses.as_slice())?;
+    let accesses = asked.book.history().accesses(asked.alloc, key)?;
+    let answer = item_with(asked, key, page, accesses.as_slice());
+    drop(accesses);
+    answer
+}
+
+fn item_with(
+    asked: &Asked<'_>,
+    key: &Key,
+    page: &Page<StepName>,
+    accesses: &[usize],
+) -> Result<Option<Json>, AllocError> {
+    let now = current(asked, key, accesses);
     if now.is_none() && accesses.is_empty() {
         return Ok(None);
     }
+    let mut rows = Rows::new(asked.alloc);
+    let more = push_accesses(asked, page, accesses, now, &mut rows);
+    let mut answer = asked.answer();
+    answer.put("key", key_value(asked, key));
+    answer.put_list("accesses", rows);
+    answer.put_whether("more", more);
+    answer.put("now", item_value(asked.alloc, now));
+    Ok(Some(answer.done()?))
+}
+
+/// The accesses of a page, and whether more follow.
+fn push_accesses(
+    asked: &Asked<'_>,
+    page: &Page<StepName>,
+    accesses: &[usize],
+    now: Option<&Item>,
+    rows: &mut Rows,
+) -> Result<bool, AllocError> {
+    let mut afters = afters_of(asked, accesses, now)?;
+    let more = push_with(asked, page, accesses, &mut afters, rows);
+    drop(afters);
+    Ok(more)
+}
+
+fn push_with(
+    asked: &Asked<'_>,
+    page: &Page<StepName>,
+    accesses: &[usize],
+    afters: &mut Vec<Option<&Item>>,
+    rows: &mut Rows,
+) -> bool {
     let first = first_behind(asked, page);
-    let mut afters = afters_of(asked, accesses.as_slice(), now)?;
-    let mut rows = Vec::new(asked.alloc);
-    let mut more = false;
-    for place in &accesses {
+    for place in accesses {
         let after = afters.pop().flatten();
-        let Some(kept) = record_at(records, *place) else {
+        let Some(kept) = record_at(asked.book.history(), *place) else {
             continue;
         };
         if *place < first {
             continue;
         }
         if page.is_full(rows.len()) {
-            more = true;
-            break;
+            return true;
         }
-        rows.push(access_row(asked, kept, after)?)?;
+        rows.push(access_row(asked, kept, after));
     }
-    let mut answer = asked.answer()?;
-    answer.put("key", key_value(asked, key)?)?;
-    answer.put_list("accesses", rows)?;
-    answer.put("more", Json::Bool(more))?;
-    answer.put("now", item_value(asked.alloc, now)?)?;
-    Ok(Some(answer.done()))
+    false
 }
 
 /// The item after each access of a key, the last access first: what the next write replaced, or the item now.
@@ -75,16 +108,16 @@ fn access_row(
     after: Option<&Item>,
 ) -> Result<Json, AllocError> {
     let mut row = Object::new(asked.alloc);
-    row.put_step("step", &kept.fact.name)?;
+    row.put_step("step", &kept.fact.name);
     if let Some(access) = &kept.fact.access {
-        row.put_text("access", access_word(asked, kept, access))?;
+        row.put_text("access", access_word(asked, kept, access));
     }
     row.put(
         "before",
-        item_value(asked.alloc, before_access(kept, after))?,
-    )?;
-    row.put("after", item_value(asked.alloc, after)?)?;
-    Ok(row.done())
+        item_value(asked.alloc, before_access(kept, after)),
+    );
+    row.put("after", item_value(asked.alloc, after));
+    row.done()
 }
 
 /// The first place behind the step after which the rows of a page begin.
@@ -99,26 +132,24 @@ fn first_behind(asked: &Asked<'_>, page: &Page<StepName>) -> usize {
 }
 
 /// The item of a key now. If no remaining step accessed it, the items are gone through.
-fn current<'a>(
-    asked: &Asked<'a>,
-    key: &Key,
-    accesses: &[usize],
-) -> Result<Option<&'a Item>, AllocError> {
+fn current<'a>(asked: &Asked<'a>, key: &Key, accesses: &[usize]) -> Option<&'a Item> {
     if let Some(place) = accesses.first() {
-        return Ok(match record_at(asked.book.history(), *place) {
-            Some(kept) => item_now(asked, kept),
-            None => None,
-        });
+        return item_now(asked, record_at(asked.book.history(), *place)?);
     }
     let (begin, _) = asked.book.entries();
     for item in asked.book.items() {
-        if let Ok(own) = key_of(&begin.schema, item) {
-            if own == *key {
-                return Ok(Some(item));
-            }
+        if has_key(&begin.schema, item, key) {
+            return Some(item);
         }
     }
-    Ok(None)
+    None
+}
+
+fn has_key(schema: &KeySchema, item: &Item, key: &Key) -> bool {
+    match key_of(schema, item) {
+        Ok(own) => own == *key,
+        Err(_) => false,
+    }
 }
 
 /// The item of a key now.
@@ -127,36 +158,62 @@ pub(crate) fn current_item<'a>(
     key: &Key,
 ) -> Result<Option<&'a Item>, AllocError> {
     let accesses = asked.book.history().accesses(asked.alloc, key)?;
-    current(asked, key, accesses.as_slice())
+    let item = current(asked, key, accesses.as_slice());
+    drop(accesses);
+    Ok(item)
 }
 
 /// The items in the order of their keys, each with the step that wrote it last, if that remains. Takes time in the number of
 /// the items, and for each that is told in that of its accesses.
 pub fn items_of(asked: &Asked<'_>, page: &Page<Key>) -> Result<Json, AllocError> {
+    let mut rows = Rows::new(asked.alloc);
+    let more = push_items(asked, page, &mut rows);
+    let mut answer = asked.answer();
+    answer.put_whether("more", Ok(more));
+    answer.put_list("items", rows);
+    answer.done()
+}
+
+/// The items of a page, and whether more follow.
+fn push_items(asked: &Asked<'_>, page: &Page<Key>, rows: &mut Rows) -> bool {
     let (begin, _) = asked.book.entries();
-    let mut rows = Vec::new(asked.alloc);
-    let mut more = false;
     for item in asked.book.items() {
         let Ok(key) = key_of(&begin.schema, item) else {
             continue;
         };
-        if is_up_to(&key, &page.after) {
-            continue;
+        if is_left_out(asked, page, rows, item, key) {
+            return true;
         }
-        if page.is_full(rows.len()) {
-            more = true;
-            break;
-        }
-        let mut row = Object::new(asked.alloc);
-        row.put("key", key_value(asked, &key)?)?;
-        row.put("item", item_value(asked.alloc, Some(item))?)?;
-        row.put("writer", writer_of(asked, &key)?)?;
-        rows.push(row.done())?;
     }
-    let mut answer = asked.answer()?;
-    answer.put("more", Json::Bool(more))?;
-    answer.put_list("items", rows)?;
-    Ok(answer.done())
+    false
+}
+
+/// Adds an item, if it is in the page. Whether the page is full before it.
+fn is_left_out(
+    asked: &Asked<'_>,
+    page: &Page<Key>,
+    rows: &mut Rows,
+    item: &Item,
+    key: Key,
+) -> bool {
+    let mut is_left_out = false;
+    if !is_up_to(&key, &page.after) {
+        if page.is_full(rows.len()) {
+            is_left_out = true;
+        } else {
+            rows.push(item_row(asked, item, &key));
+        }
+    }
+    drop(key);
+    is_left_out
+}
+
+fn item_row(asked: &Asked<'_>, item: &Item, key: &Key) -> Result<Json, AllocError> {
+    let mut row = Object::new(asked.alloc);
+    row.put("key", key_value(asked, key));
+    row.put("item", item_value(asked.alloc, Some(item)));
+    row.put("writer", writer_of(asked, key));
+    row.done()
 }
 
 /// Whether a key comes before another, or is that one.
@@ -169,10 +226,15 @@ fn is_up_to(key: &Key, after: &Option<Key>) -> bool {
 
 /// The step that wrote a key last; `null` if it was settled, or if the table began with the item.
 fn writer_of(asked: &Asked<'_>, key: &Key) -> Result<Json, AllocError> {
-    let records = asked.book.history();
-    let accesses = records.accesses(asked.alloc, key)?;
+    let accesses = asked.book.history().accesses(asked.alloc, key)?;
+    let writer = last_writer(asked, accesses.as_slice());
+    drop(accesses);
+    writer
+}
+
+fn last_writer(asked: &Asked<'_>, accesses: &[usize]) -> Result<Json, AllocError> {
     for place in accesses.iter().rev() {
-        let Some(kept) = record_at(records, *place) else {
+        let Some(kept) = record_at(asked.book.history(), *place) else {
             continue;
         };
         if let Some(access) = &kept.fact.access {

@@ -1,9 +1,9 @@
 // What is wrong, as a value.
-use answer_parts::{Asked, Object, item_value, step_value, text_value, whole};
+use answer_parts::{Asked, Object, Rows, item_value, whole};
 use attr_values::{ItemFault, KeyType, write_item};
 use explain::{Case, Detail, Flaw, Why};
 use item_store::ConditionKind;
-use json_tree::{Json, JsonList};
+use json_tree::Json;
 use ref_paths::PathStep;
 use std::alloc::{AllocError, Global};
 use step_names::StepName;
@@ -11,37 +11,43 @@ use step_names::StepName;
 /// Why a turn fails: the state, the error and its cause, the step if it was taken, and what is wrong at which place; `null` if it doesn't.
 pub(crate) fn why_value(
     asked: &Asked<'_>,
-    why: Option<Why>,
+    why: Result<Option<Why>, AllocError>,
     step: Option<&StepName>,
 ) -> Result<Json, AllocError> {
-    let Some(why) = why else {
-        return Ok(Json::Null);
-    };
-    let alloc = asked.alloc;
-    let mut value = Object::new(alloc);
-    value.put_text("state", why.state.as_str())?;
-    value.put_text("error", why.fault.error.as_str())?;
-    value.put_text("cause", why.fault.cause.as_str())?;
-    let step = match step {
-        Some(step) => step_value(alloc, step)?,
-        None => Json::Null,
-    };
-    value.put("step", step)?;
-    put_detail(alloc, &mut value, &why.detail)?;
-    Ok(value.done())
+    match why? {
+        Some(why) => {
+            let value = value_of(asked.alloc, &why, step);
+            drop(why);
+            value
+        }
+        None => Ok(Json::Null),
+    }
 }
 
-fn put_detail(alloc: Global, value: &mut Object, detail: &Detail) -> Result<(), AllocError> {
-    let mut place = Vec::new(alloc);
-    for step in &detail.place {
-        place.push(match step {
-            PathStep::Name(name) => text_value(alloc, name.as_str())?,
-            PathStep::Index(index) => whole(*index as usize),
-        })?;
+fn value_of(alloc: Global, why: &Why, step: Option<&StepName>) -> Result<Json, AllocError> {
+    let mut value = Object::new(alloc);
+    value.put_text("state", why.state.as_str());
+    value.put_text("error", why.fault.error.as_str());
+    value.put_text("cause", why.fault.cause.as_str());
+    match step {
+        Some(step) => value.put_step("step", step),
+        None => value.put_null("step"),
     }
-    value.put("place", Json::List(JsonList::from_vec(place)?))?;
-    value.put_text("case", case_word(&detail.case))?;
-    put_case(alloc, value, &detail.case)
+    value.put("place", place_value(alloc, &why.detail));
+    value.put_text("case", case_word(&why.detail.case));
+    put_case(alloc, &mut value, &why.detail.case);
+    value.done()
+}
+
+fn place_value(alloc: Global, detail: &Detail) -> Result<Json, AllocError> {
+    let mut place = Rows::new(alloc);
+    for step in &detail.place {
+        match step {
+            PathStep::Name(name) => place.push_text(name.as_str()),
+            PathStep::Index(index) => place.push(Ok(whole(*index as usize))),
+        }
+    }
+    place.done()
 }
 
 fn case_word(case: &Case) -> &'static str {
@@ -64,70 +70,74 @@ fn case_word(case: &Case) -> &'static str {
 }
 
 /// What belongs to a case. `path` and `of` are there in each.
-fn put_case(alloc: Global, value: &mut Object, case: &Case) -> Result<(), AllocError> {
-    let mut path = Json::Null;
-    let mut of = Json::Null;
+fn put_case(alloc: Global, value: &mut Object, case: &Case) {
+    value.put_word("path", path_in(case));
+    value.put("of", value_in(alloc, case));
     match case {
-        Case::PicksNothing(it) => {
-            path = text_value(alloc, it.path.as_str())?;
-            of = it.of.copy()?;
-        }
-        Case::CannotPlace(it) => {
-            path = text_value(alloc, it.path.as_str())?;
-            of = it.of.copy()?;
-        }
-        Case::TooDeep(it) => of = it.of.copy()?,
-        Case::NoList(it) => of = it.of.copy()?,
-        Case::NoRuleHolds(it) => of = it.of.copy()?,
-        Case::TooMany(it) => value.put_number("elements", it.elements.len())?,
-        Case::Malformed(it) => {
-            of = it.of.copy()?;
-            put_flaw(value, &it.flaw)?;
-        }
+        Case::TooMany(it) => value.put_number("elements", it.elements.len()),
+        Case::Malformed(it) => put_flaw(value, &it.flaw),
         Case::OtherTable(it) => {
-            value.put_text("named", it.named.as_str())?;
-            value.put_text("table", it.table.as_str())?;
+            value.put_text("named", it.named.as_str());
+            value.put_text("table", it.table.as_str());
         }
         Case::NoKey(it) => {
-            value.put_text("attribute", it.attribute.name.as_str())?;
-            value.put_text("type", type_word(it.attribute.kind))?;
-            value.put_text("fault", fault_word(it.fault))?;
-            of = write_item(alloc, &it.of)?;
+            value.put_text("attribute", it.attribute.name.as_str());
+            value.put_text("type", type_word(it.attribute.kind));
+            value.put_text("fault", fault_word(it.fault));
         }
-        Case::OtherAttribute(it) => {
-            value.put_text("attribute", it.name.as_str())?;
-            of = write_item(alloc, &it.of)?;
-        }
+        Case::OtherAttribute(it) => value.put_text("attribute", it.name.as_str()),
         Case::FailedCondition(it) => {
-            value.put_text("condition", condition_word(it.condition.kind))?;
-            value.put_text("attribute", it.condition.attribute.as_str())?;
-            value.put("item", item_value(alloc, it.item.as_ref())?)?;
+            value.put_text("condition", condition_word(it.condition.kind));
+            value.put_text("attribute", it.condition.attribute.as_str());
+            value.put("item", item_value(alloc, it.item.as_ref()));
         }
-        Case::Branch(index) => value.put_number("branch", *index as usize)?,
-        Case::Declared | Case::Unexplained => {}
+        Case::Branch(index) => value.put_number("branch", *index as usize),
+        _ => {}
     }
-    value.put("path", path)?;
-    value.put("of", of)
+}
+
+/// The path that a case is about.
+fn path_in(case: &Case) -> Option<&str> {
+    match case {
+        Case::PicksNothing(it) => Some(it.path.as_str()),
+        Case::CannotPlace(it) => Some(it.path.as_str()),
+        _ => None,
+    }
+}
+
+/// The value in which something is wrong; `null` if the case has none.
+fn value_in(alloc: Global, case: &Case) -> Result<Json, AllocError> {
+    match case {
+        Case::PicksNothing(it) => it.of.copy(),
+        Case::CannotPlace(it) => it.of.copy(),
+        Case::TooDeep(it) => it.of.copy(),
+        Case::NoList(it) => it.of.copy(),
+        Case::NoRuleHolds(it) => it.of.copy(),
+        Case::Malformed(it) => it.of.copy(),
+        Case::NoKey(it) => write_item(alloc, &it.of),
+        Case::OtherAttribute(it) => write_item(alloc, &it.of),
+        _ => Ok(Json::Null),
+    }
 }
 
 /// What is wrong with a call's text, and in which field.
-fn put_flaw(value: &mut Object, flaw: &Flaw) -> Result<(), AllocError> {
+fn put_flaw(value: &mut Object, flaw: &Flaw) {
     match flaw {
         Flaw::NoObject => value.put_text("flaw", "no object"),
         Flaw::UnknownField(name) => {
-            value.put_text("flaw", "unknown field")?;
-            value.put_text("field", name.as_str())
+            value.put_text("flaw", "unknown field");
+            value.put_text("field", name.as_str());
         }
         Flaw::MissingField(name) => {
-            value.put_text("flaw", "missing field")?;
-            value.put_text("field", name.as_str())
+            value.put_text("flaw", "missing field");
+            value.put_text("field", name.as_str());
         }
         Flaw::BadTableName => value.put_text("flaw", "table name"),
         Flaw::BadItem => value.put_text("flaw", "no attributes"),
         Flaw::BadAttribute(name, fault) => {
-            value.put_text("flaw", "attribute value")?;
-            value.put_text("fault", fault_word(*fault))?;
-            value.put_text("field", name.as_str())
+            value.put_text("flaw", "attribute value");
+            value.put_text("fault", fault_word(*fault));
+            value.put_text("field", name.as_str());
         }
         Flaw::BadCondition => value.put_text("flaw", "condition"),
         Flaw::BadReturnValues => value.put_text("flaw", "return values"),

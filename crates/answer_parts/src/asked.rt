@@ -20,25 +20,25 @@ pub struct Asked<'a> {
 
 impl Asked<'_> {
     /// An answer without what was asked for: its form's version, and of how many lines it speaks. Takes memory for these two fields.
-    pub fn answer(&self) -> Result<Object, AllocError> {
+    pub fn answer(&self) -> Object {
         answer_after(self.alloc, self.index.lines())
     }
 }
 
 /// An answer of so many lines, without what was asked for. Takes memory for its two fields.
-pub fn answer_after(alloc: Global, lines: usize) -> Result<Object, AllocError> {
+pub fn answer_after(alloc: Global, lines: usize) -> Object {
     let mut answer = Object::new(alloc);
-    answer.put("rollback_graph", Json::Whole(VERSION))?;
-    answer.put_number("entries", lines)?;
-    Ok(answer)
+    answer.put("rollback_graph", Ok(Json::Whole(VERSION)));
+    answer.put_number("entries", lines);
+    answer
 }
 
 /// A sentence in place of an answer. Takes memory for a copy of it.
 pub fn no_answer(alloc: Global, sentence: &str) -> Result<Json, AllocError> {
     let mut answer = Object::new(alloc);
-    answer.put("rollback_graph", Json::Whole(VERSION))?;
-    answer.put_text("error", sentence)?;
-    Ok(answer.done())
+    answer.put("rollback_graph", Ok(Json::Whole(VERSION)));
+    answer.put_text("error", sentence);
+    answer.done()
 }
 
 /// Which rows of a long answer are asked for: those behind a name, and at most so many.

@@ -1,8 +1,9 @@
 // The nearest steps on which one depends: of each thread and each item the last.
 use crate::asked::Asked;
-use crate::steps::closed_frame;
+use crate::steps::{closed_frame, place_of_step};
 use item_store::AccessMode;
 use question_index::frame_of;
+use rollback_book::turns::Frame;
 use rollback_book::{Fact, Kind, StepRecord};
 use std::alloc::AllocError;
 use std::collections::BTreeMap;
@@ -18,19 +19,26 @@ use step_names::{StepName, ThreadName};
 /// settled, also in its Map's bound.
 pub fn near_of(asked: &Asked<'_>, place: usize) -> Result<Vec<(usize, Reason)>, AllocError> {
     let mut near = BTreeMap::new(asked.alloc);
-    let records = asked.book.history();
-    if let Some(kept) = record_at(records, place) {
-        add_before(asked, &mut near, &kept.fact.name)?;
-        if matches!(kept.fact.kind, Kind::Join | Kind::Terminate) {
-            add_closed(asked, &mut near, kept)?;
-        }
-        add_awaited(asked, &mut near, &kept.fact, place)?;
-        add_touched(asked, &mut near, &kept.fact, place)?;
-    }
+    let found = match add_near(asked, &mut near, place) {
+        Ok(()) => with_reasons(asked, &near, place),
+        Err(AllocError) => Err(AllocError),
+    };
+    drop(near);
+    found
+}
+
+type Near = BTreeMap<usize, ()>;
+
+/// The places before one, each with the reason why the step at that one depends on it.
+fn with_reasons(
+    asked: &Asked<'_>,
+    near: &Near,
+    place: usize,
+) -> Result<Vec<(usize, Reason)>, AllocError> {
     let mut found = Vec::new(asked.alloc);
-    for (earlier, _) in near.iter() {
+    for (earlier, ()) in near.iter() {
         if *earlier < place {
-            if let Some(reason) = reason_at(records, *earlier, place) {
+            if let Some(reason) = reason_at(asked.book.history(), *earlier, place) {
                 found.push((*earlier, reason))?;
             }
         }
@@ -38,33 +46,41 @@ pub fn near_of(asked: &Asked<'_>, place: usize) -> Result<Vec<(usize, Reason)>, 
     Ok(found)
 }
 
-type Near = BTreeMap<usize, ()>;
+fn add_near(asked: &Asked<'_>, near: &mut Near, place: usize) -> Result<(), AllocError> {
+    let Some(kept) = record_at(asked.book.history(), place) else {
+        return Ok(());
+    };
+    add_before(asked, near, &kept.fact.name)?;
+    if matches!(kept.fact.kind, Kind::Join | Kind::Terminate) {
+        add_closed(asked, near, kept)?;
+    }
+    add_awaited(asked, near, &kept.fact, place)?;
+    add_touched(asked, near, &kept.fact, place)
+}
 
 /// The step before in the thread; of the first one that remains the fork above, or the start.
 fn add_before(asked: &Asked<'_>, near: &mut Near, name: &StepName) -> Result<(), AllocError> {
     if let Some(before) = name.no.checked_sub(1) {
-        let step = StepName {
-            thread: name.thread.copy()?,
-            no: before,
-        };
-        if add_step(asked, near, &step)? {
+        if add_step(asked, near, name.thread.copy()?, before)? {
             return Ok(());
         }
     }
     let Some(((fork, _), above)) = name.thread.path().split_last() else {
         return Ok(());
     };
-    let step = StepName {
-        thread: thread_above(asked.alloc, &name.thread, above.len())?,
-        no: *fork,
-    };
-    add_step(asked, near, &step)?;
+    let over = thread_above(asked.alloc, &name.thread, above.len())?;
+    add_step(asked, near, over, *fork)?;
     Ok(())
 }
 
-/// Adds a step, if it remains. Whether it does.
-fn add_step(asked: &Asked<'_>, near: &mut Near, step: &StepName) -> Result<bool, AllocError> {
-    match asked.book.history().find(step) {
+/// Adds a thread's step of this number, if it remains. Whether it does.
+fn add_step(
+    asked: &Asked<'_>,
+    near: &mut Near,
+    thread: ThreadName,
+    no: u32,
+) -> Result<bool, AllocError> {
+    match place_of_step(asked, thread, no) {
         Some(place) => {
             near.insert(place, ())?;
             Ok(true)
@@ -75,12 +91,19 @@ fn add_step(asked: &Asked<'_>, near: &mut Near, step: &StepName) -> Result<bool,
 
 /// The last step of each branch that a join or a terminate took away.
 fn add_closed(asked: &Asked<'_>, near: &mut Near, kept: &StepRecord) -> Result<(), AllocError> {
-    for (thread, frame) in closed_threads(asked.alloc, kept)? {
-        let last = StepName {
-            thread,
-            no: frame.count,
-        };
-        add_step(asked, near, &last)?;
+    let closed = closed_threads(asked.alloc, kept)?;
+    let added = add_last_steps(asked, near, closed.as_slice());
+    drop(closed);
+    added
+}
+
+fn add_last_steps(
+    asked: &Asked<'_>,
+    near: &mut Near,
+    closed: &[(ThreadName, &Frame)],
+) -> Result<(), AllocError> {
+    for (thread, frame) in closed {
+        add_step(asked, near, thread.copy()?, frame.count)?;
     }
     Ok(())
 }
@@ -99,40 +122,65 @@ fn add_awaited(
     };
     let depth = fact.name.thread.path().len().saturating_sub(1);
     let over = thread_above(asked.alloc, &fact.name.thread, depth)?;
-    for back in 0..fact.bound {
-        let Some(branch) = last.checked_sub(back) else {
-            break;
-        };
-        let Some(name) = branch_of(asked.alloc, &over, fork, branch)? else {
-            break;
-        };
-        if let Some(last) = last_of(asked, name)? {
-            if matches!(
-                reason_at(asked.book.history(), last, place),
-                Some(Reason::Bound)
-            ) {
-                near.insert(last, ())?;
-            }
-            break;
+    let awaited = last_awaited(asked, &over, fork, last, fact.bound);
+    drop(over);
+    if let Some(last) = awaited? {
+        if matches!(
+            reason_at(asked.book.history(), last, place),
+            Some(Reason::Bound)
+        ) {
+            near.insert(last, ())?;
         }
     }
     Ok(())
 }
 
+/// The place of the last step of a branch up to this one, of the last such step that remains.
+fn last_awaited(
+    asked: &Asked<'_>,
+    over: &ThreadName,
+    fork: u32,
+    last: u32,
+    bound: u32,
+) -> Result<Option<usize>, AllocError> {
+    for back in 0..bound {
+        let Some(branch) = last.checked_sub(back) else {
+            break;
+        };
+        let Some(name) = branch_of(asked.alloc, over, fork, branch)? else {
+            break;
+        };
+        if let Some(place) = last_of(asked, name)? {
+            return Ok(Some(place));
+        }
+    }
+    Ok(None)
+}
+
 /// The place of the last step of a branch that has ended, if it remains.
 fn last_of(asked: &Asked<'_>, thread: ThreadName) -> Result<Option<usize>, AllocError> {
-    let frame = match frame_of(asked.book, &thread) {
-        Some(frame) => Some(frame),
-        None => closed_frame(asked, &thread)?,
-    };
-    let Some(frame) = frame else {
-        return Ok(None);
-    };
-    let last = StepName {
-        thread,
-        no: frame.count,
-    };
-    Ok(asked.book.history().find(&last))
+    match moves_of(asked, &thread) {
+        Ok(Some(no)) => Ok(place_of_step(asked, thread, no)),
+        Ok(None) => {
+            drop(thread);
+            Ok(None)
+        }
+        Err(AllocError) => {
+            drop(thread);
+            Err(AllocError)
+        }
+    }
+}
+
+/// How many moves a thread has made, or had made when its branch went.
+fn moves_of(asked: &Asked<'_>, thread: &ThreadName) -> Result<Option<u32>, AllocError> {
+    if let Some(frame) = frame_of(asked.book, thread) {
+        return Ok(Some(frame.count));
+    }
+    match closed_frame(asked, thread)? {
+        Some(frame) => Ok(Some(frame.count)),
+        None => Ok(None),
+    }
 }
 
 /// The last write of a call's key before it; of a write the reads since, too.
@@ -145,13 +193,25 @@ fn add_touched(
     let Some(own) = &fact.access else {
         return Ok(());
     };
-    let records = asked.book.history();
-    let accesses = records.accesses(asked.alloc, &own.key)?;
+    let accesses = asked.book.history().accesses(asked.alloc, &own.key)?;
+    let added = add_accesses(asked, near, fact, own.mode, accesses.as_slice(), place);
+    drop(accesses);
+    added
+}
+
+fn add_accesses(
+    asked: &Asked<'_>,
+    near: &mut Near,
+    fact: &Fact,
+    own: AccessMode,
+    accesses: &[usize],
+    place: usize,
+) -> Result<(), AllocError> {
     for earlier in accesses.iter().rev() {
         if *earlier >= place {
             continue;
         }
-        let Some(kept) = record_at(records, *earlier) else {
+        let Some(kept) = record_at(asked.book.history(), *earlier) else {
             continue;
         };
         let Some(access) = &kept.fact.access else {
@@ -166,7 +226,7 @@ fn add_touched(
                 break;
             }
             AccessMode::Read => {
-                if !is_own && matches!(own.mode, AccessMode::Write) {
+                if !is_own && matches!(own, AccessMode::Write) {
                     near.insert(*earlier, ())?;
                 }
             }

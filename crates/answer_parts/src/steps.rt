@@ -2,23 +2,38 @@
 use crate::asked::Asked;
 use crate::near::near_of;
 use crate::threads::{machine_of, type_of, used_between};
-use crate::values::{Object, or_null, text_value};
+use crate::values::{Object, Rows, written_value};
 use asl_states::{Resource, Transition};
 use asl_tree::State;
 use attr_values::{Item, Key, KeyPart, write_item};
 use item_store::AccessMode;
-use json_tree::{Json, JsonFields, Text};
+use json_tree::Json;
 use question_index::frame_of;
 use rollback_book::turns::{Frame, Phase, located};
 use rollback_book::{Access, Fact, Saved, StepRecord};
 use std::alloc::{AllocError, Global};
-use step_graph::{awaited_branch, branch_of, kind_word, reason_word, record_at, thread_above};
+use step_graph::{
+    Reason, awaited_branch, branch_of, kind_word, reason_word, record_at, thread_above,
+};
 use step_names::{StepName, ThreadName};
 
 /// The record of a step that remains; none of another step.
 pub fn record_of<'a>(asked: &Asked<'a>, step: &StepName) -> Option<&'a StepRecord> {
     let records = asked.book.history();
     record_at(records, records.find(step)?)
+}
+
+/// The place of a thread's step of this number, if it remains.
+pub(crate) fn place_of_step(asked: &Asked<'_>, thread: ThreadName, no: u32) -> Option<usize> {
+    let step = StepName { thread, no };
+    let place = asked.book.history().find(&step);
+    drop(step);
+    place
+}
+
+/// The record of a thread's step of this number, if it remains.
+pub fn record_in<'a>(asked: &Asked<'a>, thread: ThreadName, no: u32) -> Option<&'a StepRecord> {
+    record_at(asked.book.history(), place_of_step(asked, thread, no)?)
 }
 
 // ---- frames
@@ -40,11 +55,7 @@ pub fn frame_after<'a>(
     asked: &Asked<'a>,
     step: &StepName,
 ) -> Result<Option<&'a Frame>, AllocError> {
-    let next = StepName {
-        thread: step.thread.copy()?,
-        no: step.no.saturating_add(1),
-    };
-    if let Some(kept) = record_of(asked, &next) {
+    if let Some(kept) = record_in(asked, step.thread.copy()?, step.no.saturating_add(1)) {
         return Ok(frame_before(kept));
     }
     if let Some(frame) = frame_of(asked.book, &step.thread) {
@@ -59,15 +70,11 @@ pub fn closed_frame<'a>(
     thread: &ThreadName,
 ) -> Result<Option<&'a Frame>, AllocError> {
     for depth in 0..thread.path().len() {
-        let over = thread_above(asked.alloc, thread, depth)?;
         let Some((fork, _)) = thread.path().get(depth) else {
             return Ok(None);
         };
-        let closing = StepName {
-            thread: over,
-            no: fork.saturating_add(1),
-        };
-        let Some(kept) = record_of(asked, &closing) else {
+        let over = thread_above(asked.alloc, thread, depth)?;
+        let Some(kept) = record_in(asked, over, fork.saturating_add(1)) else {
             continue;
         };
         if let Some(frame) = branch_closed_by(kept, thread.path(), depth) {
@@ -110,26 +117,26 @@ pub fn frame_value(alloc: Global, frame: Option<&Frame>) -> Result<Json, AllocEr
         return Ok(Json::Null);
     };
     let mut value = Object::new(alloc);
-    value.put_number("moves", frame.count as usize)?;
-    value.put_text("state", frame.state.as_str())?;
-    value.put("input", frame.raw.copy()?)?;
+    value.put_number("moves", frame.count as usize);
+    value.put_text("state", frame.state.as_str());
+    value.put("input", frame.raw.copy());
     match &frame.phase {
-        Phase::Ready => value.put_text("phase", "ready")?,
+        Phase::Ready => value.put_text("phase", "ready"),
         Phase::Parked(branches, _) => {
-            value.put_text("phase", "parked")?;
-            value.put_number("branches", *branches as usize)?;
+            value.put_text("phase", "parked");
+            value.put_number("branches", *branches as usize);
         }
         Phase::Done(output) => {
-            value.put_text("phase", "done")?;
-            value.put("output", output.copy()?)?;
+            value.put_text("phase", "done");
+            value.put("output", output.copy());
         }
         Phase::Failed(fault) => {
-            value.put_text("phase", "failed")?;
-            value.put_text("error", fault.error.as_str())?;
-            value.put_text("cause", fault.cause.as_str())?;
+            value.put_text("phase", "failed");
+            value.put_text("error", fault.error.as_str());
+            value.put_text("cause", fault.cause.as_str());
         }
     }
-    Ok(value.done())
+    value.done()
 }
 
 // ---- keys and items
@@ -137,37 +144,24 @@ pub fn frame_value(alloc: Global, frame: Option<&Frame>) -> Result<Json, AllocEr
 /// A key: an object of its attributes, by the names that the table's schema has.
 pub fn key_value(asked: &Asked<'_>, key: &Key) -> Result<Json, AllocError> {
     let (begin, _) = asked.book.entries();
-    let mut fields = JsonFields::new(asked.alloc);
-    put_part(
-        asked.alloc,
-        &mut fields,
-        &begin.schema.partition.name,
-        &key.partition,
-    )?;
+    let mut value = Object::new(asked.alloc);
+    value.put(
+        begin.schema.partition.name.as_str(),
+        part_value(asked.alloc, &key.partition),
+    );
     if let (Some(attribute), Some(part)) = (&begin.schema.sort, &key.sort) {
-        put_part(asked.alloc, &mut fields, &attribute.name, part)?;
+        value.put(attribute.name.as_str(), part_value(asked.alloc, part));
     }
-    Ok(Json::Fields(fields))
+    value.done()
 }
 
-fn put_part(
-    alloc: Global,
-    fields: &mut JsonFields,
-    name: &Text,
-    part: &KeyPart,
-) -> Result<(), AllocError> {
-    let mut value = JsonFields::new(alloc);
+fn part_value(alloc: Global, part: &KeyPart) -> Result<Json, AllocError> {
+    let mut value = Object::new(alloc);
     match part {
-        KeyPart::S(text) => {
-            drop(value.insert(Text::new(alloc, "S")?, text_value(alloc, text.as_str())?)?);
-        }
-        KeyPart::N(number) => {
-            let digits = number.write_text(alloc)?;
-            drop(value.insert(Text::new(alloc, "N")?, text_value(alloc, digits.as_str())?)?);
-        }
+        KeyPart::S(text) => value.put_text("S", text.as_str()),
+        KeyPart::N(number) => value.put("N", written_value(number.write_text(alloc))),
     }
-    drop(fields.insert(name.copy()?, Json::Fields(value))?);
-    Ok(())
+    value.done()
 }
 
 /// An item, or `null`. Takes time and memory in its size.
@@ -179,19 +173,34 @@ pub fn item_value(alloc: Global, item: Option<&Item>) -> Result<Json, AllocError
 }
 
 /// The item of a key before and after a step that accessed it, as its accesses say.
-#[derive(Drop)]
+#[derive(Clone, Copy)]
 pub struct Around<'a> {
     pub before: Option<&'a Item>,
     pub after: Option<&'a Item>,
 }
 
-/// The item before and after the access at a place, of all accesses of its key in order; nothing if there is no such place. Takes time in their
-/// number.
-pub fn items_at<'a>(asked: &Asked<'a>, place: usize, accesses: &[usize]) -> Option<Around<'a>> {
+/// The item before and after the access at a place, of all accesses of its key in order; nothing if there is no such place.
+fn items_at<'a>(asked: &Asked<'a>, place: usize, accesses: &[usize]) -> Option<Around<'a>> {
     let kept = record_at(asked.book.history(), place)?;
     let after = replaced_next(asked, place, accesses);
     let before = before_access(kept, after);
     Some(Around { before, after })
+}
+
+/// The item before and after the step at a place, if it is a call. Takes memory for the places of its key's accesses, and time in their
+/// number.
+pub fn items_around<'a>(
+    asked: &Asked<'a>,
+    kept: &StepRecord,
+    place: usize,
+) -> Result<Option<Around<'a>>, AllocError> {
+    let Some(access) = &kept.fact.access else {
+        return Ok(None);
+    };
+    let accesses = asked.book.history().accesses(asked.alloc, &access.key)?;
+    let around = items_at(asked, place, accesses.as_slice());
+    drop(accesses);
+    Ok(around)
 }
 
 /// The item before an access, if it is this one after it: what a write replaced, and the same for a read.
@@ -265,49 +274,43 @@ fn is_get(asked: &Asked<'_>, kept: &StepRecord) -> bool {
 
 /// A step's name, thread, kind, state with its type, key with the kind of its access, for which branch it waited, and the nearest steps on which
 /// it depends. Takes what [`near_of`] takes.
-pub fn put_step_row(
-    asked: &Asked<'_>,
-    row: &mut Object,
-    kept: &StepRecord,
-    place: usize,
-) -> Result<(), AllocError> {
-    let alloc = asked.alloc;
-    row.put_step("step", &kept.fact.name)?;
-    row.put_thread("thread", &kept.fact.name.thread)?;
-    row.put_text("kind", kind_word(kept.fact.kind))?;
+pub fn put_step_row(asked: &Asked<'_>, row: &mut Object, kept: &StepRecord, place: usize) {
+    row.put_step("step", &kept.fact.name);
+    row.put_thread("thread", &kept.fact.name.thread);
+    row.put_text("kind", kind_word(kept.fact.kind));
     match frame_before(kept) {
         Some(frame) => {
-            row.put_text("state", frame.state.as_str())?;
-            let kind = match type_of(asked.book, asked, frame) {
-                Some(word) => Some(text_value(alloc, word)?),
-                None => None,
-            };
-            row.put("type", or_null(kind))?;
+            row.put_text("state", frame.state.as_str());
+            row.put_word("type", type_of(asked.book, asked, frame));
         }
         None => {
-            row.put("state", Json::Null)?;
-            row.put("type", Json::Null)?;
+            row.put_null("state");
+            row.put_null("type");
         }
     }
     match &kept.fact.access {
         Some(access) => {
-            row.put_text("access", access_word(asked, kept, access))?;
-            row.put("key", key_value(asked, &access.key)?)?;
+            row.put_text("access", access_word(asked, kept, access));
+            row.put("key", key_value(asked, &access.key));
         }
         None => {
-            row.put("access", Json::Null)?;
-            row.put("key", Json::Null)?;
+            row.put_null("access");
+            row.put_null("key");
         }
     }
-    put_waited(alloc, row, kept)?;
-    put_on(asked, row, place)
+    put_waited(asked.alloc, row, &kept.fact);
+    put_on(asked, row, place);
 }
 
 /// Of a first move that waited under its Map's bound, the last branch for which it waited. It waited for those before it, too.
-fn put_waited(alloc: Global, row: &mut Object, kept: &StepRecord) -> Result<(), AllocError> {
-    match waited_branch(alloc, &kept.fact)? {
-        Some(thread) => row.put_thread("waited", &thread),
-        None => Ok(()),
+fn put_waited(alloc: Global, row: &mut Object, fact: &Fact) {
+    match waited_branch(alloc, fact) {
+        Ok(Some(thread)) => {
+            row.put_thread("waited", &thread);
+            drop(thread);
+        }
+        Ok(None) => {}
+        Err(AllocError) => row.refuse(),
     }
 }
 
@@ -317,22 +320,38 @@ fn waited_branch(alloc: Global, fact: &Fact) -> Result<Option<ThreadName>, Alloc
     };
     let depth = fact.name.thread.path().len().saturating_sub(1);
     let over = thread_above(alloc, &fact.name.thread, depth)?;
-    branch_of(alloc, &over, fork, branch)
+    let waited = branch_of(alloc, &over, fork, branch);
+    drop(over);
+    waited
 }
 
 /// The steps on which the one at a place depends in a picture, each with its reason.
-fn put_on(asked: &Asked<'_>, row: &mut Object, place: usize) -> Result<(), AllocError> {
-    let records = asked.book.history();
-    let mut on = Vec::new(asked.alloc);
-    for (earlier, reason) in near_of(asked, place)? {
-        if let Some(kept) = record_at(records, earlier) {
-            let mut one = Object::new(asked.alloc);
-            one.put_step("step", &kept.fact.name)?;
-            one.put_text("reason", reason_word(reason))?;
-            on.push(one.done())?;
+fn put_on(asked: &Asked<'_>, row: &mut Object, place: usize) {
+    match near_of(asked, place) {
+        Ok(near) => {
+            row.put("on", near_rows(asked, near.as_slice()));
+            drop(near);
+        }
+        Err(AllocError) => row.refuse(),
+    }
+}
+
+fn near_rows(asked: &Asked<'_>, near: &[(usize, Reason)]) -> Result<Json, AllocError> {
+    let mut on = Rows::new(asked.alloc);
+    for (earlier, reason) in near {
+        if let Some(kept) = record_at(asked.book.history(), *earlier) {
+            on.push(reason_row(asked.alloc, &kept.fact.name, *reason));
         }
     }
-    row.put_list("on", on)
+    on.done()
+}
+
+/// A step, and why another depends on it, or it on another.
+pub fn reason_row(alloc: Global, step: &StepName, reason: Reason) -> Result<Json, AllocError> {
+    let mut row = Object::new(alloc);
+    row.put_step("step", step);
+    row.put_text("reason", reason_word(reason));
+    row.done()
 }
 
 /// What a step went on to, by its thread's frames before and after it: a state, the same one again, the end, or branches; `null` if there is
@@ -342,36 +361,36 @@ pub fn outcome_of(
     before: Option<&Frame>,
     after: Option<&Frame>,
 ) -> Result<Json, AllocError> {
-    let alloc = asked.alloc;
     let Some(after) = after else {
         return Ok(Json::Null);
     };
-    let mut outcome = Object::new(alloc);
+    let mut outcome = Object::new(asked.alloc);
     match &after.phase {
-        Phase::Done(_) => outcome.put_text("to", "done")?,
+        Phase::Done(_) => outcome.put_text("to", "done"),
         Phase::Failed(fault) => {
-            outcome.put_text("to", "failed")?;
-            outcome.put_text("error", fault.error.as_str())?;
+            outcome.put_text("to", "failed");
+            outcome.put_text("error", fault.error.as_str());
         }
         Phase::Parked(branches, _) => {
-            outcome.put_text("to", "forked")?;
-            outcome.put_number("branches", *branches as usize)?;
+            outcome.put_text("to", "forked");
+            outcome.put_number("branches", *branches as usize);
         }
-        Phase::Ready => match before {
-            Some(before) if used_between(before, after).is_some() => {
-                outcome.put_text("to", "retry")?;
-            }
-            Some(before) if is_caught(asked, before, after) => {
-                outcome.put_text("to", "caught")?;
-                outcome.put_text("state", after.state.as_str())?;
-            }
-            _ => {
-                outcome.put_text("to", "next")?;
-                outcome.put_text("state", after.state.as_str())?;
-            }
-        },
+        Phase::Ready => put_next(asked, &mut outcome, before, after),
     }
-    Ok(outcome.done())
+    outcome.done()
+}
+
+/// The state to which a step went on, unless it was a retry.
+fn put_next(asked: &Asked<'_>, outcome: &mut Object, before: Option<&Frame>, after: &Frame) {
+    match before {
+        Some(before) if used_between(before, after).is_some() => {
+            outcome.put_text("to", "retry");
+            return;
+        }
+        Some(before) if is_caught(asked, before, after) => outcome.put_text("to", "caught"),
+        _ => outcome.put_text("to", "next"),
+    }
+    outcome.put_text("state", after.state.as_str());
 }
 
 /// Whether a catcher led from one state to another: the first one's own transition leads elsewhere.

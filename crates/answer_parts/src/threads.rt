@@ -1,15 +1,15 @@
 // Threads: where each stands, and what its next move is.
 use crate::asked::{Asked, Page};
-use crate::values::{Object, or_null, text_value, whole};
+use crate::steps::record_in;
+use crate::values::{Object, Rows, ThreadNames, whole};
 use asl_tree::{Level, SharedMachine, State};
-use json_tree::{Json, JsonList};
+use json_tree::Json;
 use question_index::{Presence, frame_of, is_waiting};
 use rollback_book::turns::{Frame, Phase, located};
 use rollback_book::{Book, Entry, Saved};
-use std::alloc::{AllocError, Global};
-use std::collections::BTreeMap;
+use std::alloc::AllocError;
 use step_graph::branch_of;
-use step_names::{StepName, ThreadName};
+use step_names::ThreadName;
 
 /// What a thread does next.
 #[derive(Clone, Copy, PartialEq, Eq)]
@@ -39,8 +39,20 @@ impl Move {
 
 /// Each thread that has a move. Takes time in the number of all threads, and in the branches over which they wait.
 pub fn ready_threads(asked: &Asked<'_>, page: &Page<ThreadName>) -> Result<Json, AllocError> {
-    let mut rows = Vec::new(asked.alloc);
-    let mut more = false;
+    let mut rows = Rows::new(asked.alloc);
+    let more = push_ready(asked, page, &mut rows);
+    let mut answer = asked.answer();
+    answer.put_whether("more", more);
+    answer.put_list("threads", rows);
+    answer.done()
+}
+
+/// The threads of a page that have a move, and whether more follow.
+fn push_ready(
+    asked: &Asked<'_>,
+    page: &Page<ThreadName>,
+    rows: &mut Rows,
+) -> Result<bool, AllocError> {
     for (thread, presence) in asked.index.threads().iter() {
         if page.skips(thread) {
             continue;
@@ -52,15 +64,11 @@ pub fn ready_threads(asked: &Asked<'_>, page: &Page<ThreadName>) -> Result<Json,
             continue;
         }
         if page.is_full(rows.len()) {
-            more = true;
-            break;
+            return Ok(true);
         }
-        rows.push(row_of(asked, thread, *presence, next)?)?;
+        rows.push(row_of(asked, thread, *presence, next));
     }
-    let mut answer = asked.answer()?;
-    answer.put("more", Json::Bool(more))?;
-    answer.put_list("threads", rows)?;
-    Ok(answer.done())
+    Ok(false)
 }
 
 /// One thread, whatever it does; none if there is no such thread. Takes time in the branches over which it waits.
@@ -71,12 +79,12 @@ pub fn one_thread(asked: &Asked<'_>, thread: &ThreadName) -> Result<Option<Json>
     let Some(next) = move_of(asked, thread)? else {
         return Ok(None);
     };
-    let mut rows = Vec::new(asked.alloc);
-    rows.push(row_of(asked, thread, *presence, next)?)?;
-    let mut answer = asked.answer()?;
-    answer.put("more", Json::Bool(false))?;
-    answer.put_list("threads", rows)?;
-    Ok(Some(answer.done()))
+    let mut rows = Rows::new(asked.alloc);
+    rows.push(row_of(asked, thread, *presence, next));
+    let mut answer = asked.answer();
+    answer.put_whether("more", Ok(false));
+    answer.put_list("threads", rows);
+    Ok(Some(answer.done()?))
 }
 
 /// The threads that a line after one touched, and those that are gone since. Takes time in the number of threads that these lines touched.
@@ -85,47 +93,57 @@ pub fn threads_since(
     since: usize,
     page: &Page<ThreadName>,
 ) -> Result<Json, AllocError> {
-    let mut here = BTreeMap::new(asked.alloc);
-    let mut gone = BTreeMap::new(asked.alloc);
-    for (line, threads) in asked.index.changes().range(since.saturating_add(1)..) {
+    let mut here = ThreadNames::new(asked.alloc);
+    let mut gone = ThreadNames::new(asked.alloc);
+    let mut rows = Rows::new(asked.alloc);
+    sort_touched(asked, since, &mut here, &mut gone);
+    let more = push_here(asked, page, &here, &mut rows);
+    let mut answer = asked.answer();
+    answer.put("gone", gone.done());
+    answer.put_whether("more", more);
+    answer.put_list("threads", rows);
+    drop(here);
+    answer.done()
+}
+
+/// The threads that a line after one touched: those that are here, and those that are gone.
+fn sort_touched(asked: &Asked<'_>, since: usize, here: &mut ThreadNames, gone: &mut ThreadNames) {
+    for (_, threads) in asked.index.changes().range(since.saturating_add(1)..) {
         for thread in threads {
-            match asked.index.threads().get(thread) {
-                Some(presence) => {
-                    here.insert(thread.copy()?, *presence)?;
-                }
-                None => {
-                    gone.insert(thread.copy()?, *line)?;
-                }
+            if asked.index.threads().contains_key(thread) {
+                here.add(thread);
+            } else {
+                gone.add(thread);
             }
         }
     }
-    let mut rows = Vec::new(asked.alloc);
-    let mut more = false;
-    for (thread, presence) in here.iter() {
+}
+
+/// Of these threads those of a page, and whether more follow.
+fn push_here(
+    asked: &Asked<'_>,
+    page: &Page<ThreadName>,
+    here: &ThreadNames,
+    rows: &mut Rows,
+) -> Result<bool, AllocError> {
+    if here.is_refused() {
+        return Err(AllocError);
+    }
+    for (thread, ()) in here.names().iter() {
         if page.skips(thread) {
             continue;
         }
         if page.is_full(rows.len()) {
-            more = true;
-            break;
+            return Ok(true);
         }
-        if let Some(next) = move_of(asked, thread)? {
-            rows.push(row_of(asked, thread, *presence, next)?)?;
+        if let (Some(presence), Some(next)) = (
+            asked.index.threads().get(thread),
+            move_of(asked, thread)?,
+        ) {
+            rows.push(row_of(asked, thread, *presence, next));
         }
     }
-    let mut answer = asked.answer()?;
-    answer.put("gone", names_of(asked, &gone)?)?;
-    answer.put("more", Json::Bool(more))?;
-    answer.put_list("threads", rows)?;
-    Ok(answer.done())
-}
-
-fn names_of(asked: &Asked<'_>, gone: &BTreeMap<ThreadName, usize>) -> Result<Json, AllocError> {
-    let mut names = Vec::new(asked.alloc);
-    for (thread, _) in gone.iter() {
-        names.push(crate::values::thread_value(asked.alloc, thread)?)?;
-    }
-    Ok(Json::List(JsonList::from_vec(names)?))
+    Ok(false)
 }
 
 // ---- a row
@@ -137,56 +155,45 @@ fn row_of(
     next: Move,
 ) -> Result<Json, AllocError> {
     let mut row = Object::new(asked.alloc);
-    row.put_thread("thread", thread)?;
-    row.put_number("entry", presence.brought)?;
-    let word = match next.word() {
-        Some(word) => text_value(asked.alloc, word)?,
-        None => Json::Null,
-    };
-    row.put("move", word)?;
+    row.put_thread("thread", thread);
+    row.put_number("entry", presence.brought);
+    row.put_word("move", next.word());
     if let Some(frame) = frame_of(asked.book, thread) {
-        row.put_text("machine", frame.level.machine.as_str())?;
-        row.put_number("moves", frame.count as usize)?;
-        put_place(asked, &mut row, frame)?;
-        put_retries(asked, &mut row, thread, frame)?;
+        row.put_text("machine", frame.level.machine.as_str());
+        row.put_number("moves", frame.count as usize);
+        put_place(asked, &mut row, frame);
+        put_retries(asked, &mut row, thread, frame);
     }
-    Ok(row.done())
+    row.done()
 }
 
 /// Where a thread stands, if it hasn't ended.
-fn put_place(asked: &Asked<'_>, row: &mut Object, frame: &Frame) -> Result<(), AllocError> {
+fn put_place(asked: &Asked<'_>, row: &mut Object, frame: &Frame) {
     if matches!(&frame.phase, Phase::Done(_) | Phase::Failed(_)) {
-        row.put("at", Json::Null)?;
-        row.put("state", Json::Null)?;
-        row.put("type", Json::Null)?;
-        return row.put("input", Json::Null);
+        row.put_null("at");
+        row.put_null("state");
+        row.put_null("type");
+        row.put_null("input");
+        return;
     }
-    row.put("at", place_of(asked, frame)?)?;
-    row.put_text("state", frame.state.as_str())?;
-    let kind = match type_of(asked.book, asked, frame) {
-        Some(word) => Some(text_value(asked.alloc, word)?),
-        None => None,
-    };
-    row.put("type", or_null(kind))?;
-    row.put("input", frame.raw.copy()?)
+    row.put("at", place_of(asked, frame));
+    row.put_text("state", frame.state.as_str());
+    row.put_word("type", type_of(asked.book, asked, frame));
+    row.put("input", frame.raw.copy());
 }
 
 /// How often the retrier was used that the thread's last step used, if that step was a retry.
-fn put_retries(
-    asked: &Asked<'_>,
-    row: &mut Object,
-    thread: &ThreadName,
-    frame: &Frame,
-) -> Result<(), AllocError> {
-    match retrier_of(asked, thread, frame)? {
-        Some((place, times)) => {
-            row.put_number("retrier", place)?;
-            row.put_number("retries", times as usize)
+fn put_retries(asked: &Asked<'_>, row: &mut Object, thread: &ThreadName, frame: &Frame) {
+    match retrier_of(asked, thread, frame) {
+        Ok(Some((place, times))) => {
+            row.put_number("retrier", place);
+            row.put_number("retries", times as usize);
         }
-        None => {
-            row.put("retrier", Json::Null)?;
-            row.put("retries", Json::Whole(0))
+        Ok(None) => {
+            row.put_null("retrier");
+            row.put_number("retries", 0);
         }
+        Err(AllocError) => row.refuse(),
     }
 }
 
@@ -199,18 +206,10 @@ fn retrier_of(
     if !matches!(&frame.phase, Phase::Ready) {
         return Ok(None);
     }
-    let last = StepName {
-        thread: thread.copy()?,
-        no: frame.count,
-    };
-    let records = asked.book.history();
-    let Some(before) = records.find(&last) else {
+    let Some(kept) = record_in(asked, thread.copy()?, frame.count) else {
         return Ok(None);
     };
-    if before >= records.len() {
-        return Ok(None);
-    }
-    match &records.get(before).saved {
+    match &kept.saved {
         Saved::Framed(old) | Saved::Called { frame: old, .. } | Saved::Closed { frame: old, .. } =>
             { Ok(used_between(old, frame)) }
         Saved::Started | Saved::Forked(_) => Ok(None),
@@ -285,36 +284,43 @@ fn defined_in<'a>(book: &'a Book, asked: &Asked<'_>, level: &Level) -> Option<&'
 
 /// The state's place in the definition, as a list of names and indexes.
 fn place_of(asked: &Asked<'_>, frame: &Frame) -> Result<Json, AllocError> {
-    let alloc = asked.alloc;
-    let mut place = Vec::new(alloc);
+    let mut place = Rows::new(asked.alloc);
     let mut here = match asked.index.definitions().get(&frame.level.machine) {
         Some(definition) => Some(&definition.value),
         None => None,
     };
     for step in frame.level.path.as_slice() {
-        place.push(text_value(alloc, "States")?)?;
-        place.push(text_value(alloc, step.state.as_str())?)?;
-        here = inside(inside(here, "States"), step.state.as_str());
-        if inside(here, "Branches").is_some() {
-            place.push(text_value(alloc, "Branches")?)?;
-            place.push(whole(step.branch as usize))?;
-            here = match inside(here, "Branches") {
-                Some(branches) => branches.get(step.branch as usize),
-                None => None,
-            };
-        } else {
-            let name = if inside(here, "ItemProcessor").is_some() {
-                "ItemProcessor"
-            } else {
-                "Iterator"
-            };
-            place.push(text_value(alloc, name)?)?;
-            here = inside(here, name);
-        }
+        place.push_text("States");
+        place.push_text(step.state.as_str());
+        here = push_branch(
+            &mut place,
+            inside(inside(here, "States"), step.state.as_str()),
+            step.branch,
+        );
     }
-    place.push(text_value(alloc, "States")?)?;
-    place.push(text_value(alloc, frame.state.as_str())?)?;
-    Ok(Json::List(JsonList::from_vec(place)?))
+    place.push_text("States");
+    place.push_text(frame.state.as_str());
+    place.done()
+}
+
+/// The way from a Parallel or a Map state to the branch of this number. The value to which it leads.
+fn push_branch<'a>(
+    place: &mut Rows,
+    state: Option<&'a serde_json::Value>,
+    branch: u32,
+) -> Option<&'a serde_json::Value> {
+    if let Some(branches) = inside(state, "Branches") {
+        place.push_text("Branches");
+        place.push(Ok(whole(branch as usize)));
+        return branches.get(branch as usize);
+    }
+    let name = if inside(state, "ItemProcessor").is_some() {
+        "ItemProcessor"
+    } else {
+        "Iterator"
+    };
+    place.push_text(name);
+    inside(state, name)
 }
 
 fn inside<'a>(value: Option<&'a serde_json::Value>, name: &str) -> Option<&'a serde_json::Value> {
@@ -353,34 +359,36 @@ fn closing_of(
     if is_waiting(asked.book, thread)? {
         return Ok(Move::Waits);
     }
-    match failed_branch(asked.alloc, asked.book, thread, frame, branches)? {
-        Some(_) => Ok(Move::Terminate),
-        None => Ok(Move::Join),
+    if has_failed_branch(asked, thread, frame, branches)? {
+        Ok(Move::Terminate)
+    } else {
+        Ok(Move::Join)
     }
 }
 
-/// The first branch that has failed.
-fn failed_branch(
-    alloc: Global,
-    book: &Book,
+/// Whether a branch has failed.
+fn has_failed_branch(
+    asked: &Asked<'_>,
     thread: &ThreadName,
     frame: &Frame,
     branches: u32,
-) -> Result<Option<ThreadName>, AllocError> {
+) -> Result<bool, AllocError> {
     for index in 0..branches {
-        let Some(branch) = branch_of(alloc, thread, frame.count, index)? else {
+        let Some(branch) = branch_of(asked.alloc, thread, frame.count, index)? else {
             break;
         };
-        if has_failed(book, &branch) {
-            return Ok(Some(branch));
+        if has_failed(asked.book, branch) {
+            return Ok(true);
         }
     }
-    Ok(None)
+    Ok(false)
 }
 
-fn has_failed(book: &Book, thread: &ThreadName) -> bool {
-    match frame_of(book, thread) {
+fn has_failed(book: &Book, thread: ThreadName) -> bool {
+    let has = match frame_of(book, &thread) {
         Some(frame) => matches!(&frame.phase, Phase::Failed(_)),
         None => false,
-    }
+    };
+    drop(thread);
+    has
 }

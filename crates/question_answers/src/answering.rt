@@ -6,12 +6,12 @@ use crate::questions::Question;
 use crate::showing::{execution_of, step_of, steps_from, thread_of};
 use answer_causes::parts::books::{Book, Refusal};
 use answer_causes::parts::{
-    Asked, Index, Page, answer_after, no_answer, one_thread, ready_threads, text_value,
+    Asked, Index, Object, Page, Rows, answer_after, no_answer, one_thread, ready_threads,
     threads_since,
 };
 use answer_causes::{causes_of, chain_of, explained, item_of, items_of, plan_of};
-use attr_values::{ItemFault, Key, KeyType, key_of, read_item};
-use json_tree::{Json, JsonFault, JsonFields, Text, read};
+use attr_values::{Item, ItemFault, Key, KeyType, key_of, read_item};
+use json_tree::{Json, JsonFault, read};
 use std::alloc::{AllocError, Global};
 use step_names::{StepName, ThreadName};
 
@@ -44,14 +44,12 @@ fn answer_of(asked: &Asked<'_>, question: &Question) -> Result<Answer, AllocErro
         Question::Item(key, page) => item(asked, key.as_str(), page),
         Question::Items(page) => items(asked, page),
         Question::List(filter, page) => list(asked, filter, page),
-        Question::Machines(page) => {
-            found(machines_of(asked.alloc, asked.index, asked.answer()?, page)?)
-        }
-        Question::Find(text, most) => found(found_steps(asked, text.as_str(), *most)?),
-        Question::Steps(from, count) => found(steps_from(asked, *from, *count)?),
-        Question::ReadyThreads(page) => found(ready_threads(asked, page)?),
-        Question::ThreadsSince(since, page) => found(threads_since(asked, *since, page)?),
-        Question::Log(from, count) => found(log_from(asked, *from, *count)?),
+        Question::Machines(page) => found(machines_of(asked, page)),
+        Question::Find(text, most) => found(found_steps(asked, text.as_str(), *most)),
+        Question::Steps(from, count) => found(steps_from(asked, *from, *count)),
+        Question::ReadyThreads(page) => found(ready_threads(asked, page)),
+        Question::ThreadsSince(since, page) => found(threads_since(asked, *since, page)),
+        Question::Log(from, count) => found(log_from(asked, *from, *count)),
         Question::ShowThread(_, _)
         | Question::ShowExecution(_, _)
         | Question::Explain(_)
@@ -62,13 +60,12 @@ fn answer_of(asked: &Asked<'_>, question: &Question) -> Result<Answer, AllocErro
 
 /// The executions of a filter, if its machine is one.
 fn list(asked: &Asked<'_>, filter: &Filter, page: &Page<ThreadName>) -> Result<Answer, AllocError> {
-    if let Some(machine) = &filter.machine {
-        if !asked.index.definitions().contains_key(machine) {
-            let name = String::from_str(asked.alloc, machine.as_str())?;
-            return or_absent(asked.alloc, None, name, " is no machine");
+    match &filter.machine {
+        Some(machine) if !asked.index.definitions().contains_key(machine) => {
+            absent_word(asked.alloc, machine.as_str(), " is no machine")
         }
+        _ => found(executions(asked, filter, page)),
     }
-    found(executions(asked, filter, page)?)
 }
 
 // ---- of a step
@@ -79,9 +76,9 @@ fn of_step(asked: &Asked<'_>, step: &StepName, question: &Question) -> Result<An
         return gone(asked, step);
     };
     match question {
-        Question::Causes(_, writes) => found(causes_of(asked, step, at, *writes)?),
-        Question::Plan(_) => found(plan_of(asked, step, at)?),
-        _ => found(step_of(asked, at)?),
+        Question::Causes(_, writes) => found(causes_of(asked, step, at, *writes)),
+        Question::Plan(_) => found(plan_of(asked, step, at)),
+        _ => found(step_of(asked, at)),
     }
 }
 
@@ -93,80 +90,86 @@ fn why(asked: &Asked<'_>, from: &StepName, to: &StepName) -> Result<Answer, Allo
         return gone(asked, to);
     };
     match chain_of(asked, first, last)? {
-        Some(json) => found(json),
-        None => {
-            let mut sentence = to.write_text(asked.alloc)?;
-            sentence.push_str(" is no consequence of ")?;
-            from.write_to(&mut sentence)?;
-            absent(asked.alloc, sentence.as_str())
-        }
+        Some(json) => found(Ok(json)),
+        None => no_consequence(asked, from, to),
     }
+}
+
+fn no_consequence(asked: &Asked<'_>, from: &StepName, to: &StepName) -> Result<Answer, AllocError> {
+    let mut sentence = to.write_text(asked.alloc)?;
+    let written = write_behind(&mut sentence, from);
+    absent_if(asked.alloc, sentence, written)
+}
+
+fn write_behind(sentence: &mut String, from: &StepName) -> Result<(), AllocError> {
+    sentence.push_str(" is no consequence of ")?;
+    from.write_to(sentence)
 }
 
 /// Why there is no such step.
 fn gone(asked: &Asked<'_>, step: &StepName) -> Result<Answer, AllocError> {
-    let mut sentence = step.write_text(asked.alloc)?;
-    match asked.book.plan_room(asked.alloc, step) {
-        Err(Refusal::Settled) => sentence.push_str(" is settled")?,
-        _ => sentence.push_str(" is no remaining step")?,
-    }
-    absent(asked.alloc, sentence.as_str())
+    let words = if is_settled(asked, step) {
+        " is settled"
+    } else {
+        " is no remaining step"
+    };
+    absent_name(asked.alloc, step.write_text(asked.alloc), words)
+}
+
+/// Whether a step that doesn't remain was settled.
+fn is_settled(asked: &Asked<'_>, step: &StepName) -> bool {
+    matches!(
+        asked.book.plan_room(asked.alloc, step),
+        Err(Refusal::Settled)
+    )
 }
 
 // ---- of another name
 
 /// The answer to a question of a thread, an execution or a machine.
 fn of_name(asked: &Asked<'_>, question: &Question) -> Result<Answer, AllocError> {
-    let (json, name, sentence) = match question {
+    match question {
         Question::ShowThread(thread, page) => {
-            (
-                thread_of(asked, thread, page)?,
-                thread.write_text(asked.alloc)?,
+            of_thread(
+                asked,
+                thread,
+                thread_of(asked, thread, page),
                 " is no thread",
             )
         }
         Question::Thread(thread) => {
-            (
-                one_thread(asked, thread)?,
-                thread.write_text(asked.alloc)?,
-                " is no thread",
-            )
+            of_thread(asked, thread, one_thread(asked, thread), " is no thread")
         }
         Question::Explain(thread) => {
-            (
-                explained(asked, thread)?,
-                thread.write_text(asked.alloc)?,
-                " is no thread",
-            )
+            of_thread(asked, thread, explained(asked, thread), " is no thread")
         }
         Question::ShowExecution(exec, page) => {
-            (
-                execution_of(asked, exec, page)?,
-                exec.write_text(asked.alloc)?,
+            of_thread(
+                asked,
+                exec,
+                execution_of(asked, exec, page),
                 " is no execution",
             )
         }
-        Question::Definition(name) => {
-            let text = String::from_str(asked.alloc, name.as_str())?;
-            (definition_of(asked, name)?, text, " is no machine")
-        }
-        _ => (None, String::new(asked.alloc), "no question"),
-    };
-    or_absent(asked.alloc, json, name, sentence)
+        Question::Definition(name) => match definition_of(asked, name)? {
+            Some(json) => found(Ok(json)),
+            None => absent_word(asked.alloc, name.as_str(), " is no machine"),
+        },
+        _ => absent(asked.alloc, "no question"),
+    }
 }
 
-fn or_absent(
-    alloc: Global,
-    json: Option<Json>,
-    name: String,
-    sentence: &str,
+/// An answer about a thread; of none a sentence, which begins with its name.
+fn of_thread(
+    asked: &Asked<'_>,
+    thread: &ThreadName,
+    json: Result<Option<Json>, AllocError>,
+    words: &str,
 ) -> Result<Answer, AllocError> {
-    if let Some(json) = json {
-        return found(json);
+    match json? {
+        Some(json) => found(Ok(json)),
+        None => absent_name(asked.alloc, thread.write_text(asked.alloc), words),
     }
-    let mut name = name;
-    name.push_str(sentence)?;
-    absent(alloc, name.as_str())
 }
 
 // ---- of an item
@@ -178,56 +181,85 @@ fn item(asked: &Asked<'_>, text: &str, page: &Page<StepName>) -> Result<Answer, 
             return gone(asked, after);
         }
     }
-    if let Some(key) = key_in(asked, text)? {
-        if let Some(json) = item_of(asked, &key, page)? {
-            return found(json);
-        }
+    match key_in(asked, text)? {
+        Some(key) => item_at(asked, text, key, page),
+        None => no_item(asked, text),
     }
-    no_item(asked, text)
+}
+
+fn item_at(
+    asked: &Asked<'_>,
+    text: &str,
+    key: Key,
+    page: &Page<StepName>,
+) -> Result<Answer, AllocError> {
+    let json = item_of(asked, &key, page);
+    drop(key);
+    match json? {
+        Some(json) => found(Ok(json)),
+        None => no_item(asked, text),
+    }
 }
 
 /// The items, from the first one behind a key.
 fn items(asked: &Asked<'_>, page: &Page<String>) -> Result<Answer, AllocError> {
-    let after = match &page.after {
-        Some(text) => match key_in(asked, text.as_str())? {
-            Some(key) => Some(key),
-            None => return no_item(asked, text.as_str()),
-        },
-        None => None,
+    let Some(text) = &page.after else {
+        return items_behind(asked, None, page.most);
     };
-    let most = page.most;
-    found(items_of(asked, &Page { after, most })?)
+    match key_in(asked, text.as_str())? {
+        Some(key) => items_behind(asked, Some(key), page.most),
+        None => no_item(asked, text.as_str()),
+    }
+}
+
+fn items_behind(
+    asked: &Asked<'_>,
+    after: Option<Key>,
+    most: Option<usize>,
+) -> Result<Answer, AllocError> {
+    let page = Page { after, most };
+    let json = items_of(asked, &page);
+    drop(page);
+    found(json)
 }
 
 fn no_item(asked: &Asked<'_>, text: &str) -> Result<Answer, AllocError> {
-    let mut sentence = String::from_str(asked.alloc, text)?;
-    sentence.push_str(" is no item")?;
-    absent(asked.alloc, sentence.as_str())
+    absent_word(asked.alloc, text, " is no item")
 }
 
 /// The key that a text says.
 fn key_in(asked: &Asked<'_>, text: &str) -> Result<Option<Key>, AllocError> {
-    let json = match read(asked.alloc, text.as_bytes()) {
-        Ok(json) => json,
-        Err(JsonFault::NotJson | JsonFault::NotWhole) => Json::Null,
-        Err(JsonFault::Memory) => return Err(AllocError),
-    };
-    if matches!(&json, Json::Fields(_)) {
-        return key_of_json(asked, &json);
+    match read(asked.alloc, text.as_bytes()) {
+        Ok(Json::Fields(fields)) => key_of_json(asked, Ok(Json::Fields(fields))),
+        Ok(other) => {
+            drop(other);
+            key_of_json(asked, plain_key(asked, text))
+        }
+        Err(JsonFault::NotJson | JsonFault::NotWhole) => key_of_json(asked, plain_key(asked, text)),
+        Err(JsonFault::Memory) => Err(AllocError),
     }
-    drop(json);
-    let plain = plain_key(asked, text)?;
-    key_of_json(asked, &plain)
 }
 
-fn key_of_json(asked: &Asked<'_>, json: &Json) -> Result<Option<Key>, AllocError> {
+fn key_of_json(
+    asked: &Asked<'_>,
+    json: Result<Json, AllocError>,
+) -> Result<Option<Key>, AllocError> {
+    let json = json?;
+    let item = read_item(asked.alloc, &json);
+    drop(json);
+    match item {
+        Ok(item) => key_of_item(asked, item),
+        Err(ItemFault::Memory) => Err(AllocError),
+        Err(_) => Ok(None),
+    }
+}
+
+fn key_of_item(asked: &Asked<'_>, item: Item) -> Result<Option<Key>, AllocError> {
     let (begin, _) = asked.book.entries();
-    match read_item(asked.alloc, json) {
-        Ok(item) => match key_of(&begin.schema, &item) {
-            Ok(key) => Ok(Some(key)),
-            Err(ItemFault::Memory) => Err(AllocError),
-            Err(_) => Ok(None),
-        },
+    let key = key_of(&begin.schema, &item);
+    drop(item);
+    match key {
+        Ok(key) => Ok(Some(key)),
         Err(ItemFault::Memory) => Err(AllocError),
         Err(_) => Ok(None),
     }
@@ -236,42 +268,53 @@ fn key_of_json(asked: &Asked<'_>, json: &Json) -> Result<Option<Key>, AllocError
 /// The key whose one attribute is this text.
 fn plain_key(asked: &Asked<'_>, text: &str) -> Result<Json, AllocError> {
     let (begin, _) = asked.book.entries();
-    let mut value = JsonFields::new(asked.alloc);
     let tag = match begin.schema.partition.kind {
         KeyType::S => "S",
         KeyType::N => "N",
     };
-    drop(value.insert(Text::new(asked.alloc, tag)?, text_value(asked.alloc, text)?)?);
-    let mut fields = JsonFields::new(asked.alloc);
-    drop(fields.insert(begin.schema.partition.name.copy()?, Json::Fields(value))?);
-    Ok(Json::Fields(fields))
+    let mut value = Object::new(asked.alloc);
+    value.put_text(tag, text);
+    let mut key = Object::new(asked.alloc);
+    key.put(begin.schema.partition.name.as_str(), value.done());
+    key.done()
 }
 
 // ---- before a table
 
 /// The answer to a question before there is a table: each list is empty, and there is nothing of any name.
 fn answer_before(alloc: Global, index: &Index, question: &Question) -> Result<Answer, AllocError> {
-    let mut answer = answer_after(alloc, index.lines())?;
-    match question {
-        Question::Items(_) => answer.put_list("items", Vec::new(alloc))?,
-        Question::List(filter, _) => put_none(alloc, &mut answer, filter)?,
-        Question::Machines(_) => answer.put_list("machines", Vec::new(alloc))?,
-        Question::Find(_, _) | Question::Steps(_, _) => answer.put_list("steps", Vec::new(alloc))?,
-        Question::ReadyThreads(_) => answer.put_list("threads", Vec::new(alloc))?,
-        Question::ThreadsSince(_, _) => {
-            answer.put_list("gone", Vec::new(alloc))?;
-            answer.put_list("threads", Vec::new(alloc))?;
-        }
-        Question::Log(_, _) => answer.put_list("log", Vec::new(alloc))?,
-        _ => return absent(alloc, "no table yet"),
+    let mut answer = answer_after(alloc, index.lines());
+    if !put_no_rows(alloc, &mut answer, question) {
+        drop(answer);
+        return absent(alloc, "no table yet");
     }
-    answer.put("more", Json::Bool(false))?;
+    answer.put_whether("more", Ok(false));
     found(answer.done())
 }
 
-fn found(json: Json) -> Result<Answer, AllocError> {
+/// Adds the empty list that a question asks for. Whether it asks for one.
+fn put_no_rows(alloc: Global, answer: &mut Object, question: &Question) -> bool {
+    match question {
+        Question::Items(_) => answer.put_list("items", Rows::new(alloc)),
+        Question::List(filter, _) => put_none(alloc, answer, filter),
+        Question::Machines(_) => answer.put_list("machines", Rows::new(alloc)),
+        Question::Find(_, _) | Question::Steps(_, _) => answer.put_list("steps", Rows::new(alloc)),
+        Question::ReadyThreads(_) => answer.put_list("threads", Rows::new(alloc)),
+        Question::ThreadsSince(_, _) => {
+            answer.put_list("gone", Rows::new(alloc));
+            answer.put_list("threads", Rows::new(alloc));
+        }
+        Question::Log(_, _) => answer.put_list("log", Rows::new(alloc)),
+        _ => return false,
+    }
+    true
+}
+
+// ---- an answer
+
+fn found(json: Result<Json, AllocError>) -> Result<Answer, AllocError> {
     Ok(Answer {
-        json,
+        json: json?,
         is_found: true,
     })
 }
@@ -281,4 +324,34 @@ fn absent(alloc: Global, sentence: &str) -> Result<Answer, AllocError> {
         json: no_answer(alloc, sentence)?,
         is_found: false,
     })
+}
+
+/// A sentence in place of an answer, if all of it was written.
+fn absent_if(
+    alloc: Global,
+    sentence: String,
+    written: Result<(), AllocError>,
+) -> Result<Answer, AllocError> {
+    let answer = match written {
+        Ok(()) => absent(alloc, sentence.as_str()),
+        Err(AllocError) => Err(AllocError),
+    };
+    drop(sentence);
+    answer
+}
+
+/// A sentence that begins with a name.
+fn absent_name(
+    alloc: Global,
+    name: Result<String, AllocError>,
+    words: &str,
+) -> Result<Answer, AllocError> {
+    let mut sentence = name?;
+    let written = sentence.push_str(words);
+    absent_if(alloc, sentence, written)
+}
+
+/// A sentence that begins with a word.
+fn absent_word(alloc: Global, word: &str, words: &str) -> Result<Answer, AllocError> {
+    absent_name(alloc, String::from_str(alloc, word), words)
 }

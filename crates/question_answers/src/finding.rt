@@ -1,43 +1,57 @@
 // Steps whose name, state, error or key has a text.
-use answer_causes::parts::books::StepRecord;
-use answer_causes::parts::books::turns::Phase;
+use answer_causes::parts::books::{Phase, StepRecord};
 use answer_causes::parts::graph::record_at;
-use answer_causes::parts::{Asked, Object, frame_after, frame_before, key_value, put_step_row};
+use answer_causes::parts::{
+    Asked, Object, Rows, frame_after, frame_before, key_value, put_step_row,
+};
+use attr_values::Key;
 use json_tree::{Json, write_text};
 use std::alloc::AllocError;
 
 /// The remaining steps whose name, state, error or key has a text, whatever the case of its letters, the latest first, at most so many.
 pub(crate) fn found_steps(asked: &Asked<'_>, text: &str, most: usize) -> Result<Json, AllocError> {
+    let mut rows = Rows::new(asked.alloc);
+    let more = push_found(asked, text.as_bytes(), most, &mut rows);
+    let mut answer = asked.answer();
+    answer.put_whether("more", more);
+    answer.put_list("steps", rows);
+    answer.done()
+}
+
+/// At most so many steps with a text, and whether more follow.
+fn push_found(
+    asked: &Asked<'_>,
+    text: &[u8],
+    most: usize,
+    rows: &mut Rows,
+) -> Result<bool, AllocError> {
     let records = asked.book.history();
-    let mut rows = Vec::new(asked.alloc);
-    let mut more = false;
     let count = records.len();
     for behind in 0..count {
         let place = count - 1 - behind;
         let Some(kept) = record_at(records, place) else {
             continue;
         };
-        if !has_text(asked, kept, text.as_bytes())? {
+        if !has_text(asked, kept, text)? {
             continue;
         }
         if rows.len() >= most {
-            more = true;
-            break;
+            return Ok(true);
         }
-        let mut row = Object::new(asked.alloc);
-        put_step_row(asked, &mut row, kept, place)?;
-        row.put_number("place", place)?;
-        rows.push(row.done())?;
+        rows.push(found_row(asked, kept, place));
     }
-    let mut answer = asked.answer()?;
-    answer.put("more", Json::Bool(more))?;
-    answer.put_list("steps", rows)?;
-    Ok(answer.done())
+    Ok(false)
+}
+
+fn found_row(asked: &Asked<'_>, kept: &StepRecord, place: usize) -> Result<Json, AllocError> {
+    let mut row = Object::new(asked.alloc);
+    put_step_row(asked, &mut row, kept, place);
+    row.put_number("place", place);
+    row.done()
 }
 
 fn has_text(asked: &Asked<'_>, kept: &StepRecord, text: &[u8]) -> Result<bool, AllocError> {
-    let name = kept.fact.name.write_text(asked.alloc)?;
-    if is_within(text, name.as_bytes()) {
+    if is_written(text, kept.fact.name.write_text(asked.alloc))? {
         return Ok(true);
     }
     if let Some(frame) = frame_before(kept) {
@@ -52,11 +66,25 @@ fn has_text(asked: &Asked<'_>, kept: &StepRecord, text: &[u8]) -> Result<bool, A
             }
         }
     }
-    if let Some(access) = &kept.fact.access {
-        let key = write_text(asked.alloc, &key_value(asked, &access.key)?)?;
-        return Ok(is_within(text, key.as_bytes()));
+    match &kept.fact.access {
+        Some(access) => is_written(text, key_text(asked, &access.key)),
+        None => Ok(false),
     }
-    Ok(false)
+}
+
+fn key_text(asked: &Asked<'_>, key: &Key) -> Result<String, AllocError> {
+    let value = key_value(asked, key)?;
+    let text = write_text(asked.alloc, &value);
+    drop(value);
+    text
+}
+
+/// Whether a text that was written has another.
+fn is_written(text: &[u8], written: Result<String, AllocError>) -> Result<bool, AllocError> {
+    let written = written?;
+    let is_there = is_within(text, written.as_bytes());
+    drop(written);
+    Ok(is_there)
 }
 
 /// Whether a text has another, but for the case of ASCII's letters.

@@ -1,8 +1,7 @@
 // Executions: how each stands, and how many of each machine are done, failed or open.
-use answer_causes::parts::books::Entry;
-use answer_causes::parts::books::turns::Phase;
-use answer_causes::parts::{Asked, Object, Page, frame_of, text_value, thread_value};
-use json_tree::{Json, JsonList, Text};
+use answer_causes::parts::books::{Entry, Phase};
+use answer_causes::parts::{Asked, Object, Page, Rows, ThreadNames, frame_of, whole};
+use json_tree::{Json, Text};
 use std::alloc::{AllocError, Global};
 use std::collections::BTreeMap;
 use step_names::ThreadName;
@@ -61,10 +60,10 @@ impl Count {
 
     fn value(self, alloc: Global) -> Result<Json, AllocError> {
         let mut fields = Object::new(alloc);
-        fields.put_number("done", self.done)?;
-        fields.put_number("failed", self.failed)?;
-        fields.put_number("open", self.open)?;
-        Ok(fields.done())
+        fields.put_number("done", self.done);
+        fields.put_number("failed", self.failed);
+        fields.put_number("open", self.open);
+        fields.done()
     }
 }
 
@@ -74,52 +73,75 @@ pub(crate) fn executions(
     filter: &Filter,
     page: &Page<ThreadName>,
 ) -> Result<Json, AllocError> {
-    let (all, machines) = counts(asked)?;
-    let mut rows = Vec::new(asked.alloc);
-    let mut more = false;
+    let mut rows = Rows::new(asked.alloc);
+    let more = push_listed(asked, filter, page, &mut rows);
+    let mut answer = asked.answer();
+    put_counts(asked, &mut answer);
+    answer.put("held", hold_of(asked));
+    answer.put_whether("more", Ok(more));
+    if let Some(since) = filter.since {
+        answer.put("gone", gone_since(asked, since));
+    }
+    answer.put_list("executions", rows);
+    answer.done()
+}
+
+/// The executions of a page, and whether more follow.
+fn push_listed(
+    asked: &Asked<'_>,
+    filter: &Filter,
+    page: &Page<ThreadName>,
+    rows: &mut Rows,
+) -> bool {
     for (exec, start) in asked.index.executions().iter() {
         if page.skips(exec) || !is_listed(asked, filter, exec, *start) {
             continue;
         }
         if page.is_full(rows.len()) {
-            more = true;
-            break;
+            return true;
         }
-        rows.push(row_of(asked, exec, *start)?)?;
+        rows.push(row_of(asked, exec, *start));
     }
-    let mut answer = asked.answer()?;
-    answer.put("counts", all.value(asked.alloc)?)?;
-    answer.put("machines", machines)?;
-    answer.put("held", hold_of(asked)?)?;
-    answer.put("more", Json::Bool(more))?;
-    if let Some(since) = filter.since {
-        answer.put("gone", gone_since(asked, since)?)?;
-    }
-    answer.put_list("executions", rows)?;
-    Ok(answer.done())
+    false
 }
 
 /// What a list answers before there is a table.
-pub(crate) fn put_none(
-    alloc: Global,
-    answer: &mut Object,
-    filter: &Filter,
-) -> Result<(), AllocError> {
-    answer.put("counts", Count::none().value(alloc)?)?;
-    answer.put("machines", Object::new(alloc).done())?;
-    answer.put("held", Json::Null)?;
+pub(crate) fn put_none(alloc: Global, answer: &mut Object, filter: &Filter) {
+    answer.put("counts", Count::none().value(alloc));
+    answer.put("machines", Object::new(alloc).done());
+    answer.put_null("held");
     if filter.since.is_some() {
-        answer.put_list("gone", Vec::new(alloc))?;
+        answer.put_list("gone", Rows::new(alloc));
     }
-    answer.put_list("executions", Vec::new(alloc))
+    answer.put_list("executions", Rows::new(alloc));
 }
 
+type Counts = BTreeMap<Text, Count>;
+
 /// How many executions are done, failed and open: of all, and of each machine.
-fn counts(asked: &Asked<'_>) -> Result<(Count, Json), AllocError> {
-    let mut by_machine: BTreeMap<Text, Count> = BTreeMap::new(asked.alloc);
+fn put_counts(asked: &Asked<'_>, answer: &mut Object) {
+    let mut by_machine = BTreeMap::new(asked.alloc);
+    match add_machines(asked, &mut by_machine) {
+        Ok(()) => {
+            answer.put(
+                "counts",
+                count_all(asked, &mut by_machine).value(asked.alloc),
+            );
+            answer.put("machines", counts_value(asked.alloc, &by_machine));
+        }
+        Err(AllocError) => answer.refuse(),
+    }
+    drop(by_machine);
+}
+
+fn add_machines(asked: &Asked<'_>, by_machine: &mut Counts) -> Result<(), AllocError> {
     for (name, _) in asked.index.definitions().iter() {
         by_machine.insert(name.copy()?, Count::none())?;
     }
+    Ok(())
+}
+
+fn count_all(asked: &Asked<'_>, by_machine: &mut Counts) -> Count {
     let mut all = Count::none();
     for (exec, start) in asked.index.executions().iter() {
         let status = status_of(asked, exec);
@@ -130,11 +152,15 @@ fn counts(asked: &Asked<'_>) -> Result<(Count, Json), AllocError> {
             }
         }
     }
-    let mut machines = Object::new(asked.alloc);
+    all
+}
+
+fn counts_value(alloc: Global, by_machine: &Counts) -> Result<Json, AllocError> {
+    let mut machines = Object::new(alloc);
     for (name, count) in by_machine.iter() {
-        machines.put(name.as_str(), count.value(asked.alloc)?)?;
+        machines.put(name.as_str(), count.value(alloc));
     }
-    Ok((all, machines.done()))
+    machines.done()
 }
 
 /// What is held, and what is left of it, the latest first.
@@ -143,26 +169,22 @@ fn hold_of(asked: &Asked<'_>) -> Result<Json, AllocError> {
         return Ok(Json::Null);
     };
     let mut held = Object::new(asked.alloc);
-    held.put_step("step", step)?;
-    held.put_number("left", asked.book.held_left())?;
-    Ok(held.done())
+    held.put_step("step", step);
+    held.put_number("left", asked.book.held_left());
+    held.done()
 }
 
 /// The executions that are gone, and went by a line after one.
 fn gone_since(asked: &Asked<'_>, since: usize) -> Result<Json, AllocError> {
-    let mut gone = BTreeMap::new(asked.alloc);
-    for (line, threads) in asked.index.changes().range(since.saturating_add(1)..) {
+    let mut gone = ThreadNames::new(asked.alloc);
+    for (_, threads) in asked.index.changes().range(since.saturating_add(1)..) {
         for thread in threads {
             if thread.is_execution() && asked.index.gone_by(thread).is_some() {
-                gone.insert(thread.copy()?, *line)?;
+                gone.add(thread);
             }
         }
     }
-    let mut names = Vec::new(asked.alloc);
-    for (exec, _) in gone.iter() {
-        names.push(thread_value(asked.alloc, exec)?)?;
-    }
-    Ok(Json::List(JsonList::from_vec(names)?))
+    gone.done()
 }
 
 fn is_listed(asked: &Asked<'_>, filter: &Filter, exec: &ThreadName, start: usize) -> bool {
@@ -198,7 +220,7 @@ pub(crate) fn status_of(asked: &Asked<'_>, exec: &ThreadName) -> Status {
 }
 
 /// The machine of an execution that was started by a line.
-pub(crate) fn machine_of<'a>(asked: &Asked<'a>, start: usize) -> Option<&'a Text> {
+fn machine_of<'a>(asked: &Asked<'a>, start: usize) -> Option<&'a Text> {
     let (_, entries) = asked.book.entries();
     // (the table's line is no entry)
     match entries.get(start.checked_sub(1)?) {
@@ -208,7 +230,7 @@ pub(crate) fn machine_of<'a>(asked: &Asked<'a>, start: usize) -> Option<&'a Text
 }
 
 /// The last line that changed an execution's threads.
-pub(crate) fn last_line(asked: &Asked<'_>, exec: &ThreadName, start: usize) -> usize {
+fn last_line(asked: &Asked<'_>, exec: &ThreadName, start: usize) -> usize {
     let mut last = start;
     for (thread, presence) in asked.index.threads().range(exec..) {
         if thread.exec() != exec.exec() {
@@ -222,41 +244,51 @@ pub(crate) fn last_line(asked: &Asked<'_>, exec: &ThreadName, start: usize) -> u
 }
 
 fn row_of(asked: &Asked<'_>, exec: &ThreadName, start: usize) -> Result<Json, AllocError> {
-    let alloc = asked.alloc;
-    let mut row = Object::new(alloc);
-    row.put_thread("execution", exec)?;
-    let machine = match machine_of(asked, start) {
-        Some(machine) => text_value(alloc, machine.as_str())?,
-        None => Json::Null,
-    };
-    row.put("machine", machine)?;
-    row.put_text("status", status_of(asked, exec).word())?;
-    put_end(asked, &mut row, exec)?;
-    let steps = asked.book.history().of_execution(alloc, exec.exec())?;
-    row.put_number("steps", steps.len())?;
-    row.put_number("entry", last_line(asked, exec, start))?;
-    Ok(row.done())
+    let mut row = Object::new(asked.alloc);
+    row.put_thread("execution", exec);
+    row.put_word("machine", machine_word(asked, start));
+    row.put_text("status", status_of(asked, exec).word());
+    put_end(asked, &mut row, exec);
+    row.put("steps", steps_of(asked, exec));
+    row.put_number("entry", last_line(asked, exec, start));
+    row.done()
+}
+
+/// The name of the machine of an execution that was started by a line.
+pub(crate) fn machine_word<'a>(asked: &Asked<'a>, start: usize) -> Option<&'a str> {
+    match machine_of(asked, start) {
+        Some(machine) => Some(machine.as_str()),
+        None => None,
+    }
+}
+
+/// How many steps of an execution remain.
+fn steps_of(asked: &Asked<'_>, exec: &ThreadName) -> Result<Json, AllocError> {
+    let steps = asked.book.history().of_execution(asked.alloc, exec.exec())?;
+    let count = steps.len();
+    drop(steps);
+    Ok(whole(count))
 }
 
 /// The state in which an execution is or failed, and its error.
-pub(crate) fn put_end(
-    asked: &Asked<'_>,
-    row: &mut Object,
-    exec: &ThreadName,
-) -> Result<(), AllocError> {
-    let alloc = asked.alloc;
+pub(crate) fn put_end(asked: &Asked<'_>, row: &mut Object, exec: &ThreadName) {
     let Some(frame) = frame_of(asked.book, exec) else {
-        row.put("state", Json::Null)?;
-        return row.put("error", Json::Null);
+        row.put_null("state");
+        row.put_null("error");
+        return;
     };
-    let error = match &frame.phase {
-        Phase::Failed(fault) => text_value(alloc, fault.error.as_str())?,
-        _ => Json::Null,
-    };
-    let state = match &frame.phase {
-        Phase::Done(_) => Json::Null,
-        _ => text_value(alloc, frame.state.as_str())?,
-    };
-    row.put("state", state)?;
-    row.put("error", error)
+    match &frame.phase {
+        Phase::Done(_) => {
+            row.put_null("state");
+            row.put_null("error");
+        }
+        Phase::Failed(fault) => {
+            row.put_text("state", frame.state.as_str());
+            row.put_text("error", fault.error.as_str());
+        }
+        _ => {
+            row.put_text("state", frame.state.as_str());
+            row.put_null("error");
+        }
+    }
 }

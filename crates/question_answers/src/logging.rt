@@ -1,133 +1,127 @@
 // What was accepted, by the numbers of the lines.
 use answer_causes::parts::books::Entry;
 use answer_causes::parts::graph::kind_word;
-use answer_causes::parts::{Asked, Index, Object, Page, step_value, thread_value};
-use json_tree::{Json, JsonList, Text};
+use answer_causes::parts::{Asked, Object, Page, Rows, ThreadNames};
+use json_tree::{Json, Text};
 use std::alloc::{AllocError, Global};
 use std::cmp::Ordering;
-use std::collections::BTreeMap;
 use step_names::StepName;
 
 /// So many accepted lines from a number on.
 pub(crate) fn log_from(asked: &Asked<'_>, from: usize, count: usize) -> Result<Json, AllocError> {
-    let (begin, entries) = asked.book.entries();
-    let mut rows = Vec::new(asked.alloc);
+    let (_, entries) = asked.book.entries();
     let end = from.saturating_add(count);
     let lines = entries.len().saturating_add(1);
     let last = if end < lines { end } else { lines };
+    let mut rows = Rows::new(asked.alloc);
     for line in from..last {
-        let mut row = Object::new(asked.alloc);
-        row.put_number("entry", line)?;
-        match line.checked_sub(1) {
-            Some(before) => {
-                if let Some(entry) = entries.get(before) {
-                    put_entry(asked, &mut row, entry, line)?;
-                }
-            }
-            None => {
-                row.put_text("command", "table")?;
-                row.put_text("table", begin.table.as_str())?;
-            }
-        }
-        rows.push(row.done())?;
+        rows.push(line_row(asked, line));
     }
-    let mut answer = asked.answer()?;
-    answer.put_list("log", rows)?;
-    Ok(answer.done())
+    let mut answer = asked.answer();
+    answer.put_list("log", rows);
+    answer.done()
 }
 
-fn put_entry(
-    asked: &Asked<'_>,
-    row: &mut Object,
-    entry: &Entry,
-    line: usize,
-) -> Result<(), AllocError> {
+fn line_row(asked: &Asked<'_>, line: usize) -> Result<Json, AllocError> {
+    let (begin, entries) = asked.book.entries();
+    let mut row = Object::new(asked.alloc);
+    row.put_number("entry", line);
+    match line.checked_sub(1) {
+        Some(before) => {
+            if let Some(entry) = entries.get(before) {
+                put_entry(asked, &mut row, entry, line);
+            }
+        }
+        None => {
+            row.put_text("command", "table");
+            row.put_text("table", begin.table.as_str());
+        }
+    }
+    row.done()
+}
+
+fn put_entry(asked: &Asked<'_>, row: &mut Object, entry: &Entry, line: usize) {
     match entry {
         Entry::Define { name, .. } => {
-            row.put_text("command", "define")?;
-            row.put_text("machine", name.as_str())
+            row.put_text("command", "define");
+            row.put_text("machine", name.as_str());
         }
         Entry::Start { exec, machine, .. } => {
-            row.put_text("command", "start")?;
-            row.put_text("machine", machine.as_str())?;
-            let name = StepName {
-                thread: exec.copy()?,
-                no: 0,
-            };
-            row.put_step("step", &name)
+            row.put_text("command", "start");
+            row.put_text("machine", machine.as_str());
+            row.put_step_of("step", exec, 0);
         }
         Entry::Step { name, kind } => {
-            row.put_text("command", "step")?;
-            row.put_text("kind", kind_word(*kind))?;
-            row.put_step("step", name)?;
-            put_closed(asked, row, line)
+            row.put_text("command", "step");
+            row.put_text("kind", kind_word(*kind));
+            row.put_step("step", name);
+            put_closed(asked, row, line);
         }
         Entry::Undo { step } => {
-            row.put_text("command", "undo")?;
-            let mut undone = Vec::new(asked.alloc);
-            undone.push(step_value(asked.alloc, step)?)?;
-            row.put_list("undone", undone)
+            row.put_text("command", "undo");
+            let mut undone = Rows::new(asked.alloc);
+            undone.push_step(step);
+            row.put_list("undone", undone);
         }
         Entry::Rollback { step, undone } => {
-            row.put_text("command", "rollback")?;
-            row.put_step("of", step)?;
-            let mut names = Vec::new(asked.alloc);
-            for name in undone.names() {
-                names.push(step_value(asked.alloc, name)?)?;
-            }
-            row.put_list("undone", names)
+            row.put_text("command", "rollback");
+            row.put_step("of", step);
+            row.put("undone", steps_value(asked.alloc, undone.names()));
         }
         Entry::Settle => row.put_text("command", "settle"),
         Entry::Hold { step, count } => {
-            row.put_text("command", "hold")?;
-            row.put_step("of", step)?;
-            row.put_number("held", *count)
+            row.put_text("command", "hold");
+            row.put_step("of", step);
+            row.put_number("held", *count);
         }
     }
 }
 
+fn steps_value(alloc: Global, steps: &[StepName]) -> Result<Json, AllocError> {
+    let mut names = Rows::new(alloc);
+    for step in steps {
+        names.push_step(step);
+    }
+    names.done()
+}
+
 /// The branches that went with a join or a terminate.
-fn put_closed(asked: &Asked<'_>, row: &mut Object, line: usize) -> Result<(), AllocError> {
+fn put_closed(asked: &Asked<'_>, row: &mut Object, line: usize) {
     let closed = asked.index.closed_by(line);
     if closed.is_empty() {
-        return Ok(());
+        return;
     }
-    let mut sorted = BTreeMap::new(asked.alloc);
+    let mut names = ThreadNames::new(asked.alloc);
     for thread in closed {
-        sorted.insert(thread.copy()?, ())?;
+        names.add(thread);
     }
-    let mut names = Vec::new(asked.alloc);
-    for (thread, _) in sorted.iter() {
-        names.push(thread_value(asked.alloc, thread)?)?;
-    }
-    row.put_list("closed", names)
+    row.put("closed", names.done());
 }
 
 // ---- machines
 
 /// The names of the machines, in the order of their bytes.
-pub(crate) fn machines_of(
-    alloc: Global,
-    index: &Index,
-    answer: Object,
-    page: &Page<Text>,
-) -> Result<Json, AllocError> {
-    let mut names = Vec::new(alloc);
-    let mut more = false;
-    for (name, _) in index.definitions().iter() {
+pub(crate) fn machines_of(asked: &Asked<'_>, page: &Page<Text>) -> Result<Json, AllocError> {
+    let mut names = Rows::new(asked.alloc);
+    let more = push_machines(asked, page, &mut names);
+    let mut answer = asked.answer();
+    answer.put_whether("more", Ok(more));
+    answer.put_list("machines", names);
+    answer.done()
+}
+
+/// The names of a page, and whether more follow.
+fn push_machines(asked: &Asked<'_>, page: &Page<Text>, names: &mut Rows) -> bool {
+    for (name, _) in asked.index.definitions().iter() {
         if is_up_to(name, &page.after) {
             continue;
         }
         if page.is_full(names.len()) {
-            more = true;
-            break;
+            return true;
         }
-        names.push(Json::Text(name.copy()?))?;
+        names.push_text(name.as_str());
     }
-    let mut answer = answer;
-    answer.put("more", Json::Bool(more))?;
-    answer.put("machines", Json::List(JsonList::from_vec(names)?))?;
-    Ok(answer.done())
+    false
 }
 
 /// Whether a name comes before another, or is that one.
@@ -143,8 +137,8 @@ pub(crate) fn definition_of(asked: &Asked<'_>, name: &Text) -> Result<Option<Jso
     let Some(definition) = asked.index.definitions().get(name) else {
         return Ok(None);
     };
-    let mut answer = asked.answer()?;
-    answer.put("machine", Json::Text(name.copy()?))?;
-    answer.put_text("definition", definition.text.as_str())?;
-    Ok(Some(answer.done()))
+    let mut answer = asked.answer();
+    answer.put_text("machine", name.as_str());
+    answer.put_text("definition", definition.text.as_str());
+    Ok(Some(answer.done()?))
 }

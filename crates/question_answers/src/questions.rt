@@ -98,18 +98,29 @@ fn item(alloc: Global, rest: &str) -> Result<Question, QuestionFault> {
     };
     let most = Some(most);
     if !key.is_empty() {
-        let key = String::from_str(alloc, key)?;
-        let after = match after {
-            Some(name) => Some(step(alloc, name)?),
-            None => None,
-        };
-        return Ok(Question::Item(key, Page { after, most }));
+        return item_behind(alloc, key, step_or_none(alloc, after), most);
     }
     let after = match after {
         Some(key) => Some(String::from_str(alloc, key)?),
         None => None,
     };
     Ok(Question::Items(Page { after, most }))
+}
+
+fn item_behind(
+    alloc: Global,
+    key: &str,
+    after: Result<Option<StepName>, QuestionFault>,
+    most: Option<usize>,
+) -> Result<Question, QuestionFault> {
+    let after = after?;
+    match String::from_str(alloc, key) {
+        Ok(key) => Ok(Question::Item(key, Page { after, most })),
+        Err(AllocError) => {
+            drop(after);
+            Err(QuestionFault::Memory)
+        }
+    }
 }
 
 fn whole_item(alloc: Global, key: &str) -> Result<Question, QuestionFault> {
@@ -142,17 +153,17 @@ fn show(alloc: Global, rest: &str) -> Result<Question, QuestionFault> {
         }
         return Err(QuestionFault::NoQuestion);
     }
-    let thread = thread(alloc, name)?;
     let (after, most) = page_words(more)?;
-    let after = match after {
-        Some(after) => Some(step(alloc, after)?),
-        None => None,
-    };
-    let page = Page { after, most };
-    if thread.is_execution() {
-        Ok(Question::ShowExecution(thread, page))
-    } else {
-        Ok(Question::ShowThread(thread, page))
+    let after = step_or_none(alloc, after)?;
+    match thread(alloc, name) {
+        Ok(thread) if thread.is_execution() => {
+            Ok(Question::ShowExecution(thread, Page { after, most }))
+        }
+        Ok(thread) => Ok(Question::ShowThread(thread, Page { after, most })),
+        Err(fault) => {
+            drop(after);
+            Err(fault)
+        }
     }
 }
 
@@ -172,16 +183,33 @@ fn list(alloc: Global, rest: &str) -> Result<Question, QuestionFault> {
         since: None,
     };
     let mut page = Page::whole();
+    match take_filters(alloc, &mut filter, &mut page, rest) {
+        Ok(()) => Ok(Question::List(filter, page)),
+        Err(fault) => {
+            drop(filter);
+            drop(page);
+            Err(fault)
+        }
+    }
+}
+
+/// Takes all words of a list's.
+fn take_filters(
+    alloc: Global,
+    filter: &mut Filter,
+    page: &mut Page<ThreadName>,
+    rest: &str,
+) -> Result<(), QuestionFault> {
     let mut left = rest;
     // each turn takes a word at least
     for _ in 0..rest.len() {
         if left.is_empty() {
             break;
         }
-        left = take_filter(alloc, &mut filter, &mut page, left)?;
+        left = take_filter(alloc, filter, page, left)?;
     }
     if left.is_empty() {
-        Ok(Question::List(filter, page))
+        Ok(())
     } else {
         Err(QuestionFault::NoQuestion)
     }
@@ -242,8 +270,13 @@ fn definition(alloc: Global, rest: &str) -> Result<Question, QuestionFault> {
 fn why(alloc: Global, rest: &str) -> Result<Question, QuestionFault> {
     let (from, to) = first_word(rest);
     let from = step(alloc, from)?;
-    let to = step(alloc, to)?;
-    Ok(Question::Why(from, to))
+    match step(alloc, to) {
+        Ok(to) => Ok(Question::Why(from, to)),
+        Err(fault) => {
+            drop(from);
+            Err(fault)
+        }
+    }
 }
 
 /// `TEXT` or `TEXT most N`: the last two words are a bound if they are one.
@@ -317,6 +350,13 @@ fn step(alloc: Global, text: &str) -> Result<StepName, QuestionFault> {
         Ok(step) => Ok(step),
         Err(NameFault::BadName) => Err(QuestionFault::NoQuestion),
         Err(NameFault::Memory) => Err(QuestionFault::Memory),
+    }
+}
+
+fn step_or_none(alloc: Global, text: Option<&str>) -> Result<Option<StepName>, QuestionFault> {
+    match text {
+        Some(text) => Ok(Some(step(alloc, text)?)),
+        None => Ok(None),
     }
 }
 

@@ -1,15 +1,13 @@
 // One execution, one thread or one step, with all that is known of it.
-use crate::listing::{machine_of, put_end, status_of};
-use answer_causes::parts::books::turns::Phase;
-use answer_causes::parts::books::{Entry, StepRecord};
+use crate::listing::{machine_word, put_end, status_of};
+use answer_causes::parts::books::{Entry, Frame, Phase, StepRecord};
 use answer_causes::parts::graph::{branch_of, record_at};
 use answer_causes::parts::{
-    Around, Asked, Move, Object, Page, frame_after, frame_before, frame_of, frame_value,
-    item_value, items_at, move_of, or_null, outcome_of, put_step_row, step_value, text_value,
-    thread_value,
+    Asked, Move, Object, Page, Rows, frame_after, frame_before, frame_of, frame_value, item_value,
+    items_around, move_of, outcome_of, put_step_row,
 };
 use answer_causes::{dependents_of, held_step, put_call};
-use json_tree::{Json, JsonList};
+use json_tree::Json;
 use std::alloc::AllocError;
 use std::cmp::Ordering;
 use std::collections::BTreeMap;
@@ -25,42 +23,56 @@ pub(crate) fn execution_of(
     let Some(start) = asked.index.executions().get(exec) else {
         return Ok(None);
     };
-    let alloc = asked.alloc;
-    let mut answer = asked.answer()?;
-    answer.put_thread("execution", exec)?;
-    let machine = match machine_of(asked, *start) {
-        Some(machine) => text_value(alloc, machine.as_str())?,
-        None => Json::Null,
-    };
-    answer.put("machine", machine)?;
-    answer.put("input", input_of(asked, *start)?)?;
-    answer.put_text("status", status_of(asked, exec).word())?;
-    put_end(asked, &mut answer, exec)?;
-    put_result(asked, &mut answer, exec)?;
-    answer.put("waits_for", waited_for(asked, exec)?)?;
-    answer.put("held", held_step(asked, exec)?)?;
-    let rows = threads_of(asked, exec, page)?;
-    answer.put("more", Json::Bool(rows.more))?;
-    answer.put_list("threads", rows.threads)?;
-    Ok(Some(answer.done()))
+    let mut threads = Rows::new(asked.alloc);
+    let more = push_threads(asked, exec, page, &mut threads);
+    let mut answer = asked.answer();
+    answer.put_thread("execution", exec);
+    answer.put_word("machine", machine_word(asked, *start));
+    answer.put("input", input_of(asked, *start));
+    answer.put_text("status", status_of(asked, exec).word());
+    put_end(asked, &mut answer, exec);
+    put_result(asked, &mut answer, exec);
+    answer.put("waits_for", waited_for(asked, exec));
+    answer.put("held", held_step(asked, exec));
+    answer.put_whether("more", more);
+    answer.put_list("threads", threads);
+    Ok(Some(answer.done()?))
 }
 
 /// The branches for which an execution's own thread waits: those that aren't done.
 fn waited_for(asked: &Asked<'_>, exec: &ThreadName) -> Result<Json, AllocError> {
-    let mut names = Vec::new(asked.alloc);
-    if let (Some(frame), Some(Move::Waits)) = (frame_of(asked.book, exec), move_of(asked, exec)?) {
-        if let Phase::Parked(branches, _) = &frame.phase {
-            for index in 0..*branches {
-                let Some(branch) = branch_of(asked.alloc, exec, frame.count, index)? else {
-                    break;
-                };
-                if !is_done(asked, &branch) {
-                    names.push(thread_value(asked.alloc, &branch)?)?;
-                }
-            }
-        }
+    let mut names = Rows::new(asked.alloc);
+    if push_waited(asked, exec, &mut names).is_err() {
+        names.refuse();
     }
-    Ok(Json::List(JsonList::from_vec(names)?))
+    names.done()
+}
+
+fn push_waited(asked: &Asked<'_>, exec: &ThreadName, names: &mut Rows) -> Result<(), AllocError> {
+    let Some(frame) = frame_of(asked.book, exec) else {
+        return Ok(());
+    };
+    let Phase::Parked(branches, _) = &frame.phase else {
+        return Ok(());
+    };
+    if !matches!(move_of(asked, exec)?, Some(Move::Waits)) {
+        return Ok(());
+    }
+    for index in 0..*branches {
+        let Some(branch) = branch_of(asked.alloc, exec, frame.count, index)? else {
+            break;
+        };
+        push_open(asked, names, branch);
+    }
+    Ok(())
+}
+
+/// Adds the name of a branch that isn't done.
+fn push_open(asked: &Asked<'_>, names: &mut Rows, branch: ThreadName) {
+    if !is_done(asked, &branch) {
+        names.push_thread(&branch);
+    }
+    drop(branch);
 }
 
 fn is_done(asked: &Asked<'_>, thread: &ThreadName) -> bool {
@@ -83,92 +95,94 @@ fn input_of(asked: &Asked<'_>, start: usize) -> Result<Json, AllocError> {
 }
 
 /// The output of an execution that is done, and the cause and the step of one that failed.
-fn put_result(asked: &Asked<'_>, answer: &mut Object, exec: &ThreadName) -> Result<(), AllocError> {
-    let alloc = asked.alloc;
-    let mut output = Json::Null;
-    let mut cause = Json::Null;
-    let mut step = Json::Null;
-    if let Some(frame) = frame_of(asked.book, exec) {
-        match &frame.phase {
-            Phase::Done(value) => output = value.copy()?,
-            Phase::Failed(fault) => {
-                cause = text_value(alloc, fault.cause.as_str())?;
-                let last = StepName {
-                    thread: exec.copy()?,
-                    no: frame.count,
-                };
-                step = step_value(alloc, &last)?;
-            }
-            _ => {}
+fn put_result(asked: &Asked<'_>, answer: &mut Object, exec: &ThreadName) {
+    answer.put_null("output");
+    answer.put_null("cause");
+    answer.put_null("step");
+    let Some(frame) = frame_of(asked.book, exec) else {
+        return;
+    };
+    match &frame.phase {
+        Phase::Done(output) => answer.put("output", output.copy()),
+        Phase::Failed(fault) => {
+            answer.put_text("cause", fault.cause.as_str());
+            answer.put_step_of("step", exec, frame.count);
         }
+        _ => {}
     }
-    answer.put("output", output)?;
-    answer.put("cause", cause)?;
-    answer.put("step", step)
 }
 
-/// The threads of a page, each with its steps, and whether more steps or threads follow.
-#[derive(Drop)]
-struct ThreadRows {
-    threads: Vec<Json>,
-    more: bool,
-}
+// ---- threads and their steps
 
-/// The threads of an execution, in the order of their names, each with its steps. A page counts steps; a thread whose steps all come
-/// before it is left out.
-fn threads_of(
+/// The threads of an execution, in the order of their names, each with its steps, and whether more steps or threads follow. A page
+/// counts steps; a thread whose steps all come before it is left out.
+fn push_threads(
     asked: &Asked<'_>,
     exec: &ThreadName,
     page: &Page<StepName>,
-) -> Result<ThreadRows, AllocError> {
-    let by_thread = places_by_thread(asked, exec)?;
-    let mut threads = Vec::new(asked.alloc);
-    let mut steps: usize = 0;
+    threads: &mut Rows,
+) -> Result<bool, AllocError> {
+    let mut by_thread = BTreeMap::new(asked.alloc);
+    let more = match add_places(asked, exec, &mut by_thread) {
+        Ok(()) => Ok(push_by_thread(asked, page, &by_thread, threads)),
+        Err(AllocError) => Err(AllocError),
+    };
+    drop(by_thread);
+    more
+}
+
+type ByThread = BTreeMap<ThreadName, Vec<usize>>;
+
+fn push_by_thread(
+    asked: &Asked<'_>,
+    page: &Page<StepName>,
+    by_thread: &ByThread,
+    threads: &mut Rows,
+) -> bool {
+    let mut shown: usize = 0;
     for (thread, places) in by_thread.iter() {
-        let place = page.place_of(thread);
-        if place == Ordering::Less {
+        if page.place_of(thread) == Ordering::Less {
             continue;
         }
-        if page.is_full(steps) {
-            return Ok(ThreadRows {
-                threads,
-                more: true,
-            });
+        if page.is_full(shown) {
+            return true;
         }
-        let shown = steps_in(asked, page, places.as_slice(), steps)?;
-        if shown.places.is_empty() && place == Ordering::Equal {
-            continue;
-        }
-        steps = steps.saturating_add(shown.places.len());
-        threads.push(thread_row(asked, thread, shown.places.as_slice())?)?;
-        if shown.more {
-            return Ok(ThreadRows {
-                threads,
-                more: true,
-            });
+        if push_thread(asked, page, thread, places.as_slice(), &mut shown, threads) {
+            return true;
         }
     }
-    Ok(ThreadRows {
-        threads,
-        more: false,
-    })
+    false
 }
 
-/// The steps of a thread that are in a page, and whether more of them follow.
-#[derive(Drop)]
-struct StepsInPage {
-    places: Vec<usize>,
-    more: bool,
+/// Adds a thread with those of its steps that are in a page which has so many already; none if they all come before it. Whether more of
+/// them follow.
+fn push_thread(
+    asked: &Asked<'_>,
+    page: &Page<StepName>,
+    thread: &ThreadName,
+    places: &[usize],
+    shown: &mut usize,
+    threads: &mut Rows,
+) -> bool {
+    let mut steps = Rows::new(asked.alloc);
+    let more = push_steps(asked, page, places, *shown, &mut steps);
+    if steps.len() == 0 && page.place_of(thread) == Ordering::Equal {
+        drop(steps);
+    } else {
+        *shown = shown.saturating_add(steps.len());
+        threads.push(thread_row(asked, thread, steps));
+    }
+    more
 }
 
-/// Which of a thread's steps are in a page that has so many rows already.
-fn steps_in(
+/// Those of a thread's steps that are in a page which has so many already, and whether more of them follow.
+fn push_steps(
     asked: &Asked<'_>,
     page: &Page<StepName>,
     places: &[usize],
-    rows: usize,
-) -> Result<StepsInPage, AllocError> {
-    let mut shown = Vec::new(asked.alloc);
+    shown: usize,
+    steps: &mut Rows,
+) -> bool {
     for place in places {
         let Some(kept) = record_at(asked.book.history(), *place) else {
             continue;
@@ -176,35 +190,39 @@ fn steps_in(
         if page.passes_by(&kept.fact.name) {
             continue;
         }
-        if page.is_full(rows.saturating_add(shown.len())) {
-            return Ok(StepsInPage {
-                places: shown,
-                more: true,
-            });
+        if page.is_full(shown.saturating_add(steps.len())) {
+            return true;
         }
-        shown.push(*place)?;
+        steps.push(told_step(asked, kept, *place, false));
     }
-    Ok(StepsInPage {
-        places: shown,
-        more: false,
-    })
+    false
 }
 
 /// The places of an execution's remaining steps by their threads; each thread that is there has some or none.
-fn places_by_thread(
+fn add_places(
     asked: &Asked<'_>,
     exec: &ThreadName,
-) -> Result<BTreeMap<ThreadName, Vec<usize>>, AllocError> {
-    let records = asked.book.history();
-    let mut by_thread: BTreeMap<ThreadName, Vec<usize>> = BTreeMap::new(asked.alloc);
+    by_thread: &mut ByThread,
+) -> Result<(), AllocError> {
     for (thread, _) in asked.index.threads().range(exec..) {
         if thread.exec() != exec.exec() {
             break;
         }
         by_thread.insert(thread.copy()?, Vec::new(asked.alloc))?;
     }
-    for place in &records.of_execution(asked.alloc, exec.exec())? {
-        let Some(kept) = record_at(records, *place) else {
+    let places = asked.book.history().of_execution(asked.alloc, exec.exec())?;
+    let added = add_by_thread(asked, places.as_slice(), by_thread);
+    drop(places);
+    added
+}
+
+fn add_by_thread(
+    asked: &Asked<'_>,
+    places: &[usize],
+    by_thread: &mut ByThread,
+) -> Result<(), AllocError> {
+    for place in places {
+        let Some(kept) = record_at(asked.book.history(), *place) else {
             continue;
         };
         let thread = &kept.fact.name.thread;
@@ -215,7 +233,7 @@ fn places_by_thread(
             places.push(*place)?;
         }
     }
-    Ok(by_thread)
+    Ok(())
 }
 
 /// One thread with its steps; nothing if it isn't there and no step of it remains.
@@ -224,153 +242,179 @@ pub(crate) fn thread_of(
     thread: &ThreadName,
     page: &Page<StepName>,
 ) -> Result<Option<Json>, AllocError> {
-    let records = asked.book.history();
     let mut places = Vec::new(asked.alloc);
-    for place in &records.of_execution(asked.alloc, thread.exec())? {
-        if let Some(kept) = record_at(records, *place) {
+    let answer = match add_own(asked, thread, &mut places) {
+        Ok(()) => thread_with(asked, thread, page, places.as_slice()),
+        Err(AllocError) => Err(AllocError),
+    };
+    drop(places);
+    answer
+}
+
+/// The places of a thread's remaining steps.
+fn add_own(
+    asked: &Asked<'_>,
+    thread: &ThreadName,
+    places: &mut Vec<usize>,
+) -> Result<(), AllocError> {
+    let all = asked
+        .book
+        .history()
+        .of_execution(asked.alloc, thread.exec())?;
+    let added = add_own_of(asked, thread, all.as_slice(), places);
+    drop(all);
+    added
+}
+
+fn add_own_of(
+    asked: &Asked<'_>,
+    thread: &ThreadName,
+    all: &[usize],
+    places: &mut Vec<usize>,
+) -> Result<(), AllocError> {
+    for place in all {
+        if let Some(kept) = record_at(asked.book.history(), *place) {
             if kept.fact.name.thread == *thread {
                 places.push(*place)?;
             }
         }
     }
+    Ok(())
+}
+
+fn thread_with(
+    asked: &Asked<'_>,
+    thread: &ThreadName,
+    page: &Page<StepName>,
+    places: &[usize],
+) -> Result<Option<Json>, AllocError> {
     if places.is_empty() && frame_of(asked.book, thread).is_none() {
         return Ok(None);
     }
-    let shown = steps_in(asked, page, places.as_slice(), 0)?;
-    let mut threads = Vec::new(asked.alloc);
-    threads.push(thread_row(asked, thread, shown.places.as_slice())?)?;
-    let mut answer = asked.answer()?;
-    answer.put("more", Json::Bool(shown.more))?;
-    answer.put_list("threads", threads)?;
-    Ok(Some(answer.done()))
+    let mut steps = Rows::new(asked.alloc);
+    let more = push_steps(asked, page, places, 0, &mut steps);
+    let mut threads = Rows::new(asked.alloc);
+    threads.push(thread_row(asked, thread, steps));
+    let mut answer = asked.answer();
+    answer.put_whether("more", Ok(more));
+    answer.put_list("threads", threads);
+    Ok(Some(answer.done()?))
 }
 
-fn thread_row(
-    asked: &Asked<'_>,
-    thread: &ThreadName,
-    places: &[usize],
-) -> Result<Json, AllocError> {
-    let alloc = asked.alloc;
-    let mut row = Object::new(alloc);
-    row.put_thread("thread", thread)?;
-    match frame_of(asked.book, thread) {
-        Some(frame) => {
-            row.put("closed", Json::Bool(false))?;
-            row.put("frame", frame_value(alloc, Some(frame))?)?;
-            let next = match move_of(asked, thread)? {
-                Some(next) => next.word(),
-                None => None,
-            };
-            let next = match next {
-                Some(word) => Some(text_value(alloc, word)?),
-                None => None,
-            };
-            row.put("move", or_null(next))?;
-        }
-        None => {
-            row.put("closed", Json::Bool(true))?;
-            row.put("frame", Json::Null)?;
-            row.put("move", Json::Null)?;
-        }
+fn thread_row(asked: &Asked<'_>, thread: &ThreadName, steps: Rows) -> Result<Json, AllocError> {
+    let frame = frame_of(asked.book, thread);
+    let mut row = Object::new(asked.alloc);
+    row.put_thread("thread", thread);
+    row.put_whether("closed", Ok(frame.is_none()));
+    row.put("frame", frame_value(asked.alloc, frame));
+    put_move(asked, &mut row, thread);
+    row.put_list("steps", steps);
+    row.done()
+}
+
+/// A thread's next move; `null` if it has none, and if it isn't there.
+fn put_move(asked: &Asked<'_>, row: &mut Object, thread: &ThreadName) {
+    match move_of(asked, thread) {
+        Ok(Some(next)) => row.put_word("move", next.word()),
+        Ok(None) => row.put_null("move"),
+        Err(AllocError) => row.refuse(),
     }
-    let mut steps = Vec::new(alloc);
-    for place in places {
-        if let Some(step) = told_step(asked, *place, false)? {
-            steps.push(step)?;
-        }
-    }
-    row.put_list("steps", steps)?;
-    Ok(row.done())
 }
 
 /// A step with its line, what it was given and what it handed on, and what it went on to; with its frames and items if so asked.
-fn told_step(asked: &Asked<'_>, place: usize, whole: bool) -> Result<Option<Json>, AllocError> {
-    let records = asked.book.history();
-    let Some(kept) = record_at(records, place) else {
-        return Ok(None);
-    };
-    let alloc = asked.alloc;
-    let mut row = Object::new(alloc);
-    put_step_row(asked, &mut row, kept, place)?;
-    let line = match asked.index.line_of(&kept.fact.name) {
-        Some(line) => answer_causes::parts::whole(line),
-        None => Json::Null,
-    };
-    row.put("entry", line)?;
-    let before = frame_before(kept);
+fn told_step(
+    asked: &Asked<'_>,
+    kept: &StepRecord,
+    place: usize,
+    whole: bool,
+) -> Result<Json, AllocError> {
     let after = frame_after(asked, &kept.fact.name)?;
-    row.put("outcome", outcome_of(asked, before, after)?)?;
-    let input = match before {
-        Some(frame) => frame.raw.copy()?,
-        None => Json::Null,
-    };
-    row.put("input", input)?;
-    let output = match after {
-        Some(frame) => match &frame.phase {
-            Phase::Done(output) => output.copy()?,
-            _ => frame.raw.copy()?,
-        },
-        None => Json::Null,
-    };
-    row.put("output", output)?;
-    put_call(asked, &mut row, kept, place)?;
-    if whole {
-        row.put("frames", frames_of(asked, kept)?)?;
-        row.put("items", items_around(asked, kept, place)?)?;
+    let mut row = Object::new(asked.alloc);
+    put_step_row(asked, &mut row, kept, place);
+    match asked.index.line_of(&kept.fact.name) {
+        Some(line) => row.put_number("entry", line),
+        None => row.put_null("entry"),
     }
-    Ok(Some(row.done()))
+    row.put("outcome", outcome_of(asked, frame_before(kept), after));
+    row.put("input", given_to(frame_before(kept)));
+    row.put("output", handed_on(after));
+    put_call(asked, &mut row, kept, place);
+    if whole {
+        row.put("frames", frames_of(asked, frame_before(kept), after));
+        row.put("items", items_of(asked, kept, place));
+    }
+    row.done()
 }
 
-fn frames_of(asked: &Asked<'_>, kept: &StepRecord) -> Result<Json, AllocError> {
+/// What a step was given; `null` of a start.
+fn given_to(before: Option<&Frame>) -> Result<Json, AllocError> {
+    match before {
+        Some(frame) => frame.raw.copy(),
+        None => Ok(Json::Null),
+    }
+}
+
+/// What a step handed on; `null` if its thread's frame after it isn't known.
+fn handed_on(after: Option<&Frame>) -> Result<Json, AllocError> {
+    match after {
+        Some(frame) => match &frame.phase {
+            Phase::Done(output) => output.copy(),
+            _ => frame.raw.copy(),
+        },
+        None => Ok(Json::Null),
+    }
+}
+
+fn frames_of(
+    asked: &Asked<'_>,
+    before: Option<&Frame>,
+    after: Option<&Frame>,
+) -> Result<Json, AllocError> {
     let mut frames = Object::new(asked.alloc);
-    let after = frame_after(asked, &kept.fact.name)?;
-    frames.put("before", frame_value(asked.alloc, frame_before(kept))?)?;
-    frames.put("after", frame_value(asked.alloc, after)?)?;
-    Ok(frames.done())
+    frames.put("before", frame_value(asked.alloc, before));
+    frames.put("after", frame_value(asked.alloc, after));
+    frames.done()
 }
 
 /// The item before and after a call; `null` of another step.
-fn items_around(asked: &Asked<'_>, kept: &StepRecord, place: usize) -> Result<Json, AllocError> {
-    let Some(access) = &kept.fact.access else {
-        return Ok(Json::Null);
-    };
-    let accesses = asked.book.history().accesses(asked.alloc, &access.key)?;
-    let Some(Around { before, after }) = items_at(asked, place, accesses.as_slice()) else {
+fn items_of(asked: &Asked<'_>, kept: &StepRecord, place: usize) -> Result<Json, AllocError> {
+    let Some(around) = items_around(asked, kept, place)? else {
         return Ok(Json::Null);
     };
     let mut items = Object::new(asked.alloc);
-    items.put("before", item_value(asked.alloc, before)?)?;
-    items.put("after", item_value(asked.alloc, after)?)?;
-    Ok(items.done())
+    items.put("before", item_value(asked.alloc, around.before));
+    items.put("after", item_value(asked.alloc, around.after));
+    items.done()
 }
 
 /// All about the step at a place: also those on which it depends directly, and those that depend directly on it.
 pub(crate) fn step_of(asked: &Asked<'_>, place: usize) -> Result<Json, AllocError> {
-    let mut answer = asked.answer()?;
-    if let Some(row) = told_step(asked, place, true)? {
-        answer.put("step", row)?;
+    let mut answer = asked.answer();
+    if let Some(kept) = record_at(asked.book.history(), place) {
+        answer.put("step", told_step(asked, kept, place, true));
     }
-    answer.put("dependents", dependents_of(asked, place)?)?;
-    Ok(answer.done())
+    answer.put("dependents", dependents_of(asked, place));
+    answer.done()
 }
 
 /// So many remaining steps from a place on, with their frames and items.
 pub(crate) fn steps_from(asked: &Asked<'_>, from: usize, count: usize) -> Result<Json, AllocError> {
-    let mut rows = Vec::new(asked.alloc);
+    let records = asked.book.history();
     let end = from.saturating_add(count);
-    let last = if end < asked.book.history().len() {
+    let last = if end < records.len() {
         end
     } else {
-        asked.book.history().len()
+        records.len()
     };
+    let mut rows = Rows::new(asked.alloc);
     for place in from..last {
-        if let Some(row) = told_step(asked, place, true)? {
-            rows.push(row)?;
+        if let Some(kept) = record_at(records, place) {
+            rows.push(told_step(asked, kept, place, true));
         }
     }
-    let mut answer = asked.answer()?;
-    answer.put_number("from", from)?;
-    answer.put_number("count", asked.book.history().len())?;
-    answer.put_list("steps", rows)?;
-    Ok(answer.done())
+    let mut answer = asked.answer();
+    answer.put_number("from", from);
+    answer.put_number("count", records.len());
+    answer.put_list("steps", rows);
+    answer.done()
 }

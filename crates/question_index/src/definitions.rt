@@ -24,18 +24,39 @@ pub(crate) fn keep(
     text: &str,
     line: usize,
 ) -> Result<(), AllocError> {
-    let value = match Value::from_str(alloc, text) {
-        Ok(value) => value,
-        Err(fault) => {
-            return if fault.is_memory() {
-                Err(AllocError)
-            } else {
-                Ok(())
-            };
-        }
+    match Value::from_str(alloc, text) {
+        Ok(value) => keep_value(alloc, definitions, name, text, line, value),
+        Err(fault) => if fault.is_memory() {
+            Err(AllocError)
+        } else {
+            Ok(())
+        },
+    }
+}
+
+fn keep_value(
+    alloc: Global,
+    definitions: &mut Definitions,
+    name: &Text,
+    text: &str,
+    line: usize,
+    value: Value,
+) -> Result<(), AllocError> {
+    let Ok((name, text)) = copies_of(alloc, name, text) else {
+        drop(value);
+        return Err(AllocError);
     };
-    let text = String::from_str(alloc, text)?;
-    let kept = Definition { line, text, value };
-    drop(definitions.insert(name.copy()?, kept)?);
+    drop(definitions.insert(name, Definition { line, text, value })?);
     Ok(())
+}
+
+fn copies_of(alloc: Global, name: &Text, text: &str) -> Result<(Text, String), AllocError> {
+    let name = name.copy()?;
+    match String::from_str(alloc, text) {
+        Ok(text) => Ok((name, text)),
+        Err(AllocError) => {
+            drop(name);
+            Err(AllocError)
+        }
+    }
 }

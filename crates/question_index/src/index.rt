@@ -1,6 +1,6 @@
 // Which accepted line brought what about.
 use crate::definitions::{Definition, Definitions, keep};
-use crate::touched::{Touched, frame_of, of_entry};
+use crate::touched::{Touched, frame_of};
 use command_lines::{Command, CommandFault};
 use json_tree::Text;
 use rollback_book::{Book, Entry};
@@ -106,15 +106,29 @@ impl Index {
     ) -> Result<(), AllocError> {
         let number = self.lines;
         self.lines = number.saturating_add(1);
+        let mut touched = touched;
+        let entered = self.enter_last(alloc, book, line, number, &mut touched);
+        drop(touched);
+        entered
+    }
+
+    /// Enters the line of the last entry.
+    fn enter_last(
+        &mut self,
+        alloc: Global,
+        book: &Book,
+        line: &str,
+        number: usize,
+        touched: &mut Touched,
+    ) -> Result<(), AllocError> {
         let (_, entries) = book.entries();
         let Some(entry) = entries.last() else {
-            drop(touched);
             return Ok(());
         };
         self.enter_name(alloc, line, entry, number)?;
-        let mut touched = of_entry(alloc, book, entry, touched)?;
-        self.close(number, &mut touched)?;
-        self.place(book, number, touched)
+        touched.add_entry(alloc, book, entry)?;
+        self.close(alloc, number, touched)?;
+        self.place(alloc, book, number, touched)
     }
 
     /// What a line says of machines, executions and steps.
@@ -176,32 +190,41 @@ impl Index {
     }
 
     /// Keeps the branches that went.
-    fn close(&mut self, number: usize, touched: &mut Touched) -> Result<(), AllocError> {
-        let mut closed = Vec::new(*touched.closed.allocator());
-        for thread in &touched.closed {
-            closed.push(thread.copy()?)?;
+    fn close(&mut self, alloc: Global, number: usize, touched: &Touched) -> Result<(), AllocError> {
+        if touched.closed.is_empty() {
+            return Ok(());
         }
-        if !closed.is_empty() {
-            self.closed.insert(number, closed)?;
-        }
+        let mut closed = Vec::new(alloc);
+        let Ok(()) = add_copies(&mut closed, touched.closed.as_slice()) else {
+            drop(closed);
+            return Err(AllocError);
+        };
+        self.closed.insert(number, closed)?;
         Ok(())
     }
 
     /// Notes where the threads are that a line touched.
-    fn place(&mut self, book: &Book, number: usize, touched: Touched) -> Result<(), AllocError> {
-        let mut changed = Vec::new(*touched.closed.allocator());
+    fn place(
+        &mut self,
+        alloc: Global,
+        book: &Book,
+        number: usize,
+        touched: &Touched,
+    ) -> Result<(), AllocError> {
         for thread in &touched.moved {
             self.note(book, number, thread, true)?;
-            changed.push(thread.copy()?)?;
         }
         for thread in &touched.closed {
             self.note(book, number, thread, true)?;
-            changed.push(thread.copy()?)?;
         }
         for thread in &touched.beside {
             self.note(book, number, thread, false)?;
-            changed.push(thread.copy()?)?;
         }
+        let mut changed = Vec::new(alloc);
+        let Ok(()) = add_touched(&mut changed, touched) else {
+            drop(changed);
+            return Err(AllocError);
+        };
         self.changes.insert(number, changed)?;
         Ok(())
     }
@@ -231,4 +254,18 @@ impl Index {
         self.threads.insert(thread.copy()?, presence)?;
         Ok(())
     }
+}
+
+/// Adds all threads that a line touches.
+fn add_touched(names: &mut Vec<ThreadName>, touched: &Touched) -> Result<(), AllocError> {
+    add_copies(names, touched.moved.as_slice())?;
+    add_copies(names, touched.closed.as_slice())?;
+    add_copies(names, touched.beside.as_slice())
+}
+
+fn add_copies(names: &mut Vec<ThreadName>, threads: &[ThreadName]) -> Result<(), AllocError> {
+    for thread in threads {
+        names.push(thread.copy()?)?;
+    }
+    Ok(())
 }

@@ -37,12 +37,18 @@ impl Touched {
         command: &Command<'_>,
     ) -> Result<Touched, AllocError> {
         let mut touched = Touched::none(alloc);
-        match command {
-            Command::Undo(step) => touched.add_step(alloc, book, step)?,
-            Command::Rollback(step) => touched.add_plan(alloc, book, step)?,
-            _ => {}
+        let added = match command {
+            Command::Undo(step) => touched.add_step(alloc, book, step),
+            Command::Rollback(step) => touched.add_plan(alloc, book, step),
+            _ => Ok(()),
+        };
+        match added {
+            Ok(()) => Ok(touched),
+            Err(AllocError) => {
+                drop(touched);
+                Err(AllocError)
+            }
         }
-        Ok(touched)
     }
 
     fn add_step(&mut self, alloc: Global, book: &Book, step: &StepName) -> Result<(), AllocError> {
@@ -62,7 +68,19 @@ impl Touched {
             return Ok(());
         }
         let plan = records.plan(alloc, at)?;
-        for place in plan.places() {
+        let added = self.add_records(alloc, book, plan.places());
+        drop(plan);
+        added
+    }
+
+    fn add_records(
+        &mut self,
+        alloc: Global,
+        book: &Book,
+        places: &[usize],
+    ) -> Result<(), AllocError> {
+        let records = book.history();
+        for place in places {
             if *place < records.len() {
                 self.add_record(alloc, book, records.get(*place))?;
             }
@@ -80,15 +98,10 @@ impl Touched {
         let name = &kept.fact.name;
         self.moved.push(name.thread.copy()?)?;
         match &kept.saved {
-            Saved::Forked(_) => self.add_branches(alloc, book, name)?,
-            Saved::Closed { .. } => {
-                for (thread, _) in closed_threads(alloc, kept)? {
-                    self.moved.push(thread)?;
-                }
-            }
-            _ => {}
+            Saved::Forked(_) => self.add_branches(alloc, book, name),
+            Saved::Closed { .. } => add_names(&mut self.moved, closed_threads(alloc, kept)),
+            _ => Ok(()),
         }
-        Ok(())
     }
 
     /// The branches of a fork whose thread is over them.
@@ -112,7 +125,20 @@ impl Touched {
 
     /// The threads above these, whose next moves depend on them, and under a bound the branches that wait for them.
     fn add_around(&mut self, alloc: Global, book: &Book, ends: Ends) -> Result<(), AllocError> {
-        for (over, (fork, index)) in forks_above(alloc, &self.moved)?.iter() {
+        let above = forks_above(alloc, self.moved.as_slice())?;
+        let added = self.add_above(alloc, book, &above, ends);
+        drop(above);
+        added
+    }
+
+    fn add_above(
+        &mut self,
+        alloc: Global,
+        book: &Book,
+        above: &Forks,
+        ends: Ends,
+    ) -> Result<(), AllocError> {
+        for (over, (fork, index)) in above.iter() {
             let Some(frame) = frame_of(book, over) else {
                 continue;
             };
@@ -143,13 +169,26 @@ impl Touched {
             let Some(branch) = branch_of(alloc, over, fork, index)? else {
                 break;
             };
-            let waits = is_waiting(book, &branch)?;
-            self.beside.push(branch)?;
+            let waits = self.add_beside(book, branch)?;
             if waits && matches!(ends, Ends::AtFirstThatWaits) {
                 break;
             }
         }
         Ok(())
+    }
+
+    /// Adds a branch. Whether it waits.
+    fn add_beside(&mut self, book: &Book, branch: ThreadName) -> Result<bool, AllocError> {
+        match is_waiting(book, &branch) {
+            Ok(waits) => {
+                self.beside.push(branch)?;
+                Ok(waits)
+            }
+            Err(AllocError) => {
+                drop(branch);
+                Err(AllocError)
+            }
+        }
     }
 }
 
@@ -161,11 +200,20 @@ enum Ends {
 }
 
 /// Of the threads above some branches, the fork and the least index of these branches.
-fn forks_above(
-    alloc: Global,
-    threads: &Vec<ThreadName>,
-) -> Result<BTreeMap<ThreadName, (u32, u32)>, AllocError> {
-    let mut above: BTreeMap<ThreadName, (u32, u32)> = BTreeMap::new(alloc);
+type Forks = BTreeMap<ThreadName, (u32, u32)>;
+
+fn forks_above(alloc: Global, threads: &[ThreadName]) -> Result<Forks, AllocError> {
+    let mut above = BTreeMap::new(alloc);
+    match note_forks(alloc, threads, &mut above) {
+        Ok(()) => Ok(above),
+        Err(AllocError) => {
+            drop(above);
+            Err(AllocError)
+        }
+    }
+}
+
+fn note_forks(alloc: Global, threads: &[ThreadName], above: &mut Forks) -> Result<(), AllocError> {
     for thread in threads {
         let Some(((fork, index), rest)) = thread.path().split_last() else {
             continue;
@@ -177,31 +225,50 @@ fn forks_above(
         };
         above.insert(over, (*fork, least))?;
     }
-    Ok(above)
+    Ok(())
 }
 
-/// The threads that the entry touched which came last. Those of steps that it took back are there already.
-pub(crate) fn of_entry(
-    alloc: Global,
-    book: &Book,
-    entry: &Entry,
-    before: Touched,
-) -> Result<Touched, AllocError> {
-    let mut touched = before;
-    match entry {
-        Entry::Start { exec, .. } => touched.moved.push(exec.copy()?)?,
-        Entry::Step { name, kind } => touched.add_taken(alloc, book, name, *kind)?,
-        _ => {}
+/// Adds the names of branches that went with a step.
+fn add_names(
+    names: &mut Vec<ThreadName>,
+    closed: Result<Vec<(ThreadName, &Frame)>, AllocError>,
+) -> Result<(), AllocError> {
+    let closed = closed?;
+    let added = add_copies_of(names, closed.as_slice());
+    drop(closed);
+    added
+}
+
+fn add_copies_of(
+    names: &mut Vec<ThreadName>,
+    closed: &[(ThreadName, &Frame)],
+) -> Result<(), AllocError> {
+    for (thread, _) in closed {
+        names.push(thread.copy()?)?;
     }
-    let ends = match entry {
-        Entry::Undo { .. } | Entry::Rollback { .. } => Ends::AtLast,
-        _ => Ends::AtFirstThatWaits,
-    };
-    touched.add_around(alloc, book, ends)?;
-    Ok(touched)
+    Ok(())
 }
 
 impl Touched {
+    /// Adds the threads that the entry touched which came last. Those of steps that it took back are there already.
+    pub(crate) fn add_entry(
+        &mut self,
+        alloc: Global,
+        book: &Book,
+        entry: &Entry,
+    ) -> Result<(), AllocError> {
+        match entry {
+            Entry::Start { exec, .. } => self.moved.push(exec.copy()?)?,
+            Entry::Step { name, kind } => self.add_taken(alloc, book, name, *kind)?,
+            _ => {}
+        }
+        let ends = match entry {
+            Entry::Undo { .. } | Entry::Rollback { .. } => Ends::AtLast,
+            _ => Ends::AtFirstThatWaits,
+        };
+        self.add_around(alloc, book, ends)
+    }
+
     fn add_taken(
         &mut self,
         alloc: Global,
@@ -227,10 +294,7 @@ impl Touched {
         let records = book.history();
         match records.find(name) {
             Some(at) if at < records.len() => {
-                for (thread, _) in closed_threads(alloc, records.get(at))? {
-                    self.closed.push(thread)?;
-                }
-                Ok(())
+                add_names(&mut self.closed, closed_threads(alloc, records.get(at)))
             }
             _ => Ok(()),
         }
