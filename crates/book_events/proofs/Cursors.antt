@@ -1,5 +1,5 @@
 -- Cursors, and which threads a search from one leaves out.
-use Rattle.std.proofs.Common.{◌≡◌, ℕ, Bool, true, false, not, ◌&&◌, Ordering, Less, Equal, Greater, is_eq, List, [], ◌∷◌, refl, ap, sym, subst, ◌∙◌, Option, Some, inl, inr}
+use Rattle.std.proofs.Common.{◌≡◌, ℕ, Bool, true, false, not, ◌&&◌, Ordering, Less, Equal, Greater, is_eq, List, [], refl, ap, sym, subst, ◌∙◌, Some, inl, inr}
 use Rattle.std.specs.Prelude.{◌⊎◌}
 use Rattle.std.proofs.Math.Path.{fun_ext}
 use Rattle.std.specs.Cmp.Lexicographic.{slice_cmp}
@@ -9,7 +9,7 @@ use Rattle.std.proofs.lemmas.Cmp.{nat_list_cmp_total}
 use Rattle.std.proofs.lemmas.Map.Text.{is_eq-slice_cmp}
 use Rattle.std.proofs.lemmas.Slice.Eq.{bytes_eq-Decides}
 use Rattle.step_names.specs.Order.{thread_cmp}
-use Rattle.step_names.specs.Thread.{Thread, IsThread, execution}
+use Rattle.step_names.specs.Thread.{Thread, execution}
 use Rattle.branch_tree.proofs.FirstOf.{none_before}
 use Rattle.saved_steps.specs.First.{IsFirstReady, free}
 use Rattle.saved_steps.proofs.Earliest.{apart, nothing_before}
@@ -47,17 +47,6 @@ back_within exec was same t less =
     let at : slice_cmp nat_cmp t.exec was.exec ≡ Less = under_first was.exec t less in
     let equal : exec ≡ was.exec = (bytes_eq-Decides exec was.exec).0 (sym (is_eq-slice_cmp exec was.exec) ∙ same) in
     (before_it t was at, subst (λ (x : List ℕ). bytes_eq x t.exec ≡ false) (sym equal) (apart was.exec t.exec at))
-
--- it hadn't come so far
-pub back_not : (exec : List ℕ) (was : Thread) → slice_cmp nat_cmp exec was.exec ≡ Greater → GoesBack exec was was
-back_not exec was later t less = (less, by (bytes_eq exec t.exec) refl)
-  where
-    by : (b : Bool) → bytes_eq exec t.exec ≡ b → b ≡ false
-    by true h =
-        let same : exec ≡ t.exec = (bytes_eq-Decides exec t.exec).0 h in
-        let after : slice_cmp nat_cmp t.exec was.exec ≡ Greater = subst (λ (x : List ℕ). slice_cmp nat_cmp x was.exec ≡ Greater) same later in
-        let clash : Greater ≡ Less = rw after at less in cc
-    by false h = refl
 
 -- ---- which threads are left out
 

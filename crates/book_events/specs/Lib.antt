@@ -1,5 +1,6 @@
 pub mod Rest
 pub mod Planned
+pub mod Answered
 pub mod FirstMove
 pub mod Calls
 pub mod Tickets
@@ -10,3 +11,4 @@ pub use Rattle.step_history.specs.Frame
 pub use Rattle.step_history.specs.Prepared
 pub use Rattle.saved_steps.specs.declared.fact.Fact
 pub use Rattle.saved_steps.specs.First
+pub use Rattle.saved_steps.specs.Steps

@@ -1,6 +1,9 @@
 #![tactic(auto)]
 
-//! The calls of a book that many callers may share, as a trait with their promises; and what these calls take and answer.
+//! The calls of a book, as two traits with their promises: those that many callers may share, and those of the one who has it. And what
+//! these calls take and answer.
+mod calls;
+mod change;
 mod commits;
 mod cursor;
 mod events;
@@ -8,6 +11,8 @@ mod room;
 mod ticket;
 
 pub use branch_tree::Readiness;
+pub use calls::BookCalls;
+pub use change::Change;
 pub use commits::{CommitRefusal, Staleness};
 pub use cursor::Cursor;
 pub use events::Events;

@@ -1,5 +1,4 @@
 pub mod Logs
 pub mod Receipts
 pub mod Seatings
-pub mod Sending
 pub mod Sums

@@ -5,8 +5,8 @@ use Rattle.std.proofs.lemmas.List.{length-map}
 use Rattle.std.proofs.lemmas.Bool.Decides.{nat_tests}
 use Rattle.book_log.specs.Answers.{is_full_for_step}
 use Rattle.book_log.specs.Log.{Log, remaining}
-use Rattle.rollback_book.specs.StepRecord.{StepRecord}
-use Rattle.rollback_book.specs.Steps.{name_of}
+use Rattle.book_log.specs.StepRecord.{StepRecord}
+use Rattle.book_events.specs.Steps.{name_of}
 use Rattle.step_names.specs.declared.step.StepName.{StepName}
 
 pub sum_test : (most entries steps : ℕ) → nat_lt most (entries + steps) ≡ (nat_lt most entries || nat_lt (most - entries) steps)

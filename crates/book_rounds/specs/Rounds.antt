@@ -31,9 +31,9 @@ pub record IsRound (moves : ℕ) (before after : Log) : Type 0 where
   pub legal : GoesOnLegally before more
 
 -- a book that comes back has the log from before
-abbrev pub IsLeftBook : Log → RoundFault → Type 0
-IsLeftBook log (NotBegun book) = book.log ≡ log
-IsLeftBook log Lost = Unit {0}
+abbrev pub IsLeftBook : {B : Type 0} → (B → Log) → Log → RoundFault B → Type 0
+IsLeftBook log_in log (NotBegun book) = log_in book ≡ log
+IsLeftBook log_in log Lost = Unit {0}
 
 -- none of the passes has a receipt
 abbrev pub AreFresh : List PassView → Type 0

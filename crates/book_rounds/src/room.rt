@@ -2,7 +2,7 @@
 ghost use Rattle.std.specs.Prelude.{◌≡◌, ◌+◌, ◌||◌, nat_le, nat_lt};
 ghost use Rattle.book_log.specs.Answers.{is_full_for_step, most_steps, most_before_a_step};
 
-use rollback_book::Book;
+use book_events::BookCalls;
 
 /// So many steps may remain.
 const MOST_STEPS: usize = 65_536;
@@ -12,8 +12,8 @@ const MOST_BEFORE_A_STEP: usize = 999_998;
 
 /// Whether the book refuses each step as full. Takes no memory.
 #[tactic(auto, using(crate::proofs::Sums::full_by))]
-pub fn is_full_for_step(book: &Book) -> bool
-    ensures { result ≡ is_full_for_step book.now.log }
+pub fn is_full_for_step<B: BookCalls>(book: &B) -> bool
+    ensures { result ≡ is_full_for_step (B.log book.now) }
 {
     is_full(book.entries().1.len(), book.history().len())
 }

@@ -8,7 +8,7 @@ ghost use Rattle.book_log.specs.Log.{Log};
 ghost use Rattle.book_rounds.specs.Rounds.{AreFresh, IsLeftBook, IsRound, is_refused_stop, is_refused};
 
 use crate::seats::seats_of;
-use rollback_book::Book;
+use book_events::BookCalls;
 use shared_book::{PARTS, Pass, Shared, SharedRefusal, Sharing, close, share};
 use std::alloc::Global;
 use std::marker::Brand;
@@ -19,17 +19,17 @@ use step_workers::{OpenGate, Outcome, Stopped, work};
 
 /// The book after a round.
 #[derive(Drop)]
-pub struct Round {
-    pub book: Book,
+pub struct Round<B: Drop> {
+    pub book: B,
     /// Whether a worker was refused a call, or couldn't be started.
     pub is_refused: bool,
 }
 
 /// Why a round gives no book, or the one that was given.
 #[derive(Drop)]
-pub enum RoundFault {
+pub enum RoundFault<B: Drop> {
     /// Memory for the round was refused before any step. The log is as it was.
-    NotBegun(Book),
+    NotBegun(B),
     /// The book couldn't be taken out again, out of memory. It is gone.
     Lost,
 }
@@ -42,39 +42,39 @@ pub enum RoundFault {
 /// # Errors
 ///
 /// `NotBegun` and `Lost`, both if it is out of memory. No contract says that `Lost` comes for nothing else.
-pub fn run_round<R: Threads + Wait + Sync>(
+pub fn run_round<B: BookCalls + Send, R: Threads + Wait + Sync>(
     rt: &R,
     alloc: Global,
-    book: Book,
+    book: B,
     workers: u32,
     moves: u32,
-) -> Result<Round, RoundFault>
+) -> Result<Round<B>, RoundFault<B>>
     requires { (1 ≤ workers) × (workers ≤ 8) }
-    ensures ok { IfOk result (λ r. IsRound moves book.log r.book.log) }
-    ensures err { IfErr result (IsLeftBook book.log) }
+    ensures ok { IfOk result (λ r. IsRound moves (B.log book) (B.log r.book)) }
+    ensures err { IfErr result (IsLeftBook B.log (B.log book)) }
 {
-    share_and_work::<Brand, R>(rt, alloc, Blank::new(PARTS), book, workers as usize, moves)
+    share_and_work::<B, Brand, R>(rt, alloc, Blank::new(PARTS), book, workers as usize, moves)
 }
 
 /// All that can be refused before the first step comes first, so that the book can be given back as it was.
 #[tactic(auto, using(crate::proofs::Receipts::round_closed))]
-fn share_and_work<L: Sharing + Send + Sync, R: Threads + Wait + Sync>(
+fn share_and_work<B: BookCalls + Send, L: Sharing + Send + Sync, R: Threads + Wait + Sync>(
     rt: &R,
     alloc: Global,
     blank: Blank,
-    book: Book,
+    book: B,
     workers: usize,
     moves: u32,
-) -> Result<Round, RoundFault>
-    requires shared { (blank.name ≡ L.name) × (blank.parts ≡ L.parts) × (L.parts ≡ PARTS) × (book.log ≡ L.begun) }
+) -> Result<Round<B>, RoundFault<B>>
+    requires shared { (blank.name ≡ L.name) × (blank.parts ≡ L.parts) × (L.parts ≡ PARTS) × (B.log book ≡ L.begun) }
     requires few { (1 ≤ workers) × (workers ≤ 8) }
-    ensures ok { IfOk result (λ r. IsRound moves L.begun r.book.log) }
-    ensures err { IfErr result (IsLeftBook L.begun) }
+    ensures ok { IfOk result (λ r. IsRound moves L.begun (B.log r.book)) }
+    ensures err { IfErr result (IsLeftBook B.log L.begun) }
 {
     let Ok(passes) = Vec::with_capacity(alloc, workers) else {
         return Err(RoundFault::NotBegun(book));
     };
-    let (shared, first) = share::<Book, L>(alloc, blank, book);
+    let (shared, first) = share::<B, L>(alloc, blank, book);
     let passes = seats_of(first, workers, passes);
     match work(rt, alloc, &shared, passes, moves, &OpenGate) {
         Ok(outcome) => finish(alloc, shared, outcome),
@@ -84,14 +84,14 @@ fn share_and_work<L: Sharing + Send + Sync, R: Threads + Wait + Sync>(
 
 /// The book of a round that is over.
 #[tactic(auto, using(crate::proofs::Receipts::round_closed))]
-fn finish<L: Sharing>(
+fn finish<B: BookCalls, L: Sharing>(
     alloc: Global,
-    shared: Shared<Book, L>,
+    shared: Shared<B, L>,
     outcome: Outcome<L>,
-) -> Result<Round, RoundFault>
-    ensures ok { IfOk result (λ r. (moves : ℕ) → (passes : List PassView) → AreFresh passes → AllGoOn moves passes outcome.passes.items → IsRound moves L.begun r.book.log) }
+) -> Result<Round<B>, RoundFault<B>>
+    ensures ok { IfOk result (λ r. (moves : ℕ) → (passes : List PassView) → AreFresh passes → AllGoOn moves passes outcome.passes.items → IsRound moves L.begun (B.log r.book)) }
     ensures refused { IfOk result (λ r. r.is_refused ≡ is_refused outcome.refused outcome.stopped.items) }
-    ensures err { IfErr result (IsLeftBook L.begun) }
+    ensures err { IfErr result (IsLeftBook B.log L.begun) }
 {
     let Outcome {
         passes,
@@ -111,9 +111,13 @@ fn finish<L: Sharing>(
 
 /// The book of a round that didn't begin.
 #[tactic(auto, using(crate::proofs::Receipts::same_closed))]
-fn give_back<L: Sharing>(alloc: Global, shared: Shared<Book, L>, passes: Vec<Pass<L>>) -> RoundFault
+fn give_back<B: BookCalls, L: Sharing>(
+    alloc: Global,
+    shared: Shared<B, L>,
+    passes: Vec<Pass<L>>,
+) -> RoundFault<B>
     requires { AreFresh passes.items }
-    ensures { IsLeftBook L.begun result }
+    ensures { IsLeftBook B.log L.begun result }
 {
     match close(alloc, shared, passes) {
         Ok(book) => RoundFault::NotBegun(book),

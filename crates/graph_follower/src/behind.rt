@@ -8,6 +8,7 @@ use std::alloc::Global;
 use std::io::{BufRead, Write};
 use std::sync::Wait;
 use std::thread::Threads;
+use threaded_book::Book;
 
 /// Follows the lines of a reader behind those of a journal, by a session of none, which is let go then. Takes what each line takes, and what
 /// [`follow`] takes.
@@ -18,7 +19,7 @@ use std::thread::Threads;
 pub fn follow_behind<T: Threads + Wait + Sync, S: Alter + Drop, R: BufRead, W: Write>(
     rt: &T,
     alloc: Global,
-    session: Session<S>,
+    session: Session<Book, S>,
     lines: &[String],
     reader: &mut R,
     writer: &mut W,
@@ -50,7 +51,7 @@ fn follow_fed<T: Threads + Wait + Sync, S: Alter, R: BufRead, W: Write>(
 pub fn ask_behind<T: Threads + Wait + Sync, S: Alter + Drop>(
     rt: &T,
     alloc: Global,
-    session: Session<S>,
+    session: Session<Book, S>,
     lines: &[String],
     questions: &[&str],
 ) -> Result<Vec<Answer>, FollowFault> {

@@ -14,6 +14,7 @@ use std::alloc::{AllocError, Global};
 use std::marker::Model;
 use std::sync::Wait;
 use std::thread::Threads;
+use threaded_book::Book;
 
 /// What is answered to a line that is none of a journal's.
 const NO_LINE: &[u8] = b"no 20";
@@ -31,17 +32,18 @@ const NO_MEMORY: &[u8] = b"{\"error\":\"out of memory\",\"rollback_graph\":1}";
 #[derive(Drop)]
 pub struct Follower<S: Alter> {
     alloc: Global,
-    session: Session<S>,
+    session: Session<Book, S>,
     index: Index,
 }
 
 impl<S: Alter> Model for Follower<S> {
     ghost use Rattle.std.specs.Coded.{coded_option};
-    ghost use Rattle.journaled_book.specs.BookContract as book_row;
+    ghost use Rattle.threaded_book.specs.Book.{BookView};
+    ghost use Rattle.threaded_book.specs.BookContract as book_row;
     ghost use Rattle.journaled_book.specs.Journaled.{journaled_code};
     ghost use Rattle.operator_line.specs.Sessions.{Sitting, sitting_code};
 
-    ghost Value = { Sitting S };
+    ghost Value = { Sitting BookView S };
 
     ghost coded = { sitting_code (journaled_code (coded_option book_row.the_row.coded) S.code) };
 
@@ -75,7 +77,7 @@ pub enum Followed {
 
 impl<S: Alter> Follower<S> {
     /// A follower of no lines, over a session of none.
-    pub fn new(alloc: Global, session: Session<S>) -> Follower<S>
+    pub fn new(alloc: Global, session: Session<Book, S>) -> Follower<S>
         ensures { result ≡ session }
     {
         Follower {

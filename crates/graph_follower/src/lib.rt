@@ -9,6 +9,7 @@ mod giving;
 pub use behind::{ask_behind, follow_behind};
 pub use follower::{Answered, Followed, Follower, Form, written};
 pub use following::{FollowFault, follow};
+pub use threaded_book::Book;
 
 /// What is asked and answered.
 pub mod questions {

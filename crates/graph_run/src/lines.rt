@@ -5,6 +5,7 @@ ghost use Rattle.graph_run.specs.Reading.{GivesLines, GivesNoLines, Reads, Reads
 
 use crate::running::{of_journal, of_open};
 use book_journal::{Journal, JournalFault};
+use graph_follower::Book;
 use rollback_run::ExitFault;
 use rollback_run::lines::Session;
 use sqlite::{Alter, Connection, Error};
@@ -47,7 +48,7 @@ fn lines_in<S: Alter + Drop>(
 pub(crate) fn session_of<M: Alter + Drop>(
     alloc: Global,
     connection: Result<Connection<M>, Error>,
-) -> Result<Session<M>, ExitFault> {
+) -> Result<Session<Book, M>, ExitFault> {
     let connection = match connection {
         Ok(connection) => connection,
         Err(cause) => return Err(of_journal(JournalFault::from(cause))),

@@ -9,6 +9,7 @@ ghost use Rattle.graph_run.specs.Status.{IsAskFaultSaid, status_of};
 
 use crate::asked::AskRefusal;
 use book_journal::{Journal, JournalFault};
+use graph_follower::Book;
 use graph_text::{Answer, Question, ask};
 use journaled_book::{JournaledBook, OpenFault};
 use rollback_run::lines::{ServeFault, flush, write_all};
@@ -43,7 +44,7 @@ pub fn run<S: Alter + Drop, W: Write>(
 fn answer_from<S: Alter + Drop, W: Write>(
     alloc: Global,
     question: &Question,
-    book: JournaledBook<S>,
+    book: JournaledBook<Book, S>,
     writer: &mut W,
 ) -> Result<bool, ExitFault>
     ensures { AnswersQuestion result (W.contents writer.old) (W.contents writer.new) }
@@ -140,8 +141,8 @@ fn show<W: Write>(writer: &mut W, text: &[u8]) -> Result<(), ServeFault>
 fn open<S: Alter + Drop>(
     alloc: Global,
     connection: Result<Connection<S>, Error>,
-) -> Result<JournaledBook<S>, ExitFault>
-    ensures ok { IfOk result (λ j. OpensFile (λ held. state S.Store held) connection (log_of j.book)) }
+) -> Result<JournaledBook<Book, S>, ExitFault>
+    ensures ok { IfOk result (λ j. OpensFile (λ held. state S.Store held) connection (log_of (λ b. b.log) j.book)) }
     ensures err { IfErr result (OpensNoFile (λ held. state S.Store held) connection) }
 {
     match connection {
@@ -153,8 +154,8 @@ fn open<S: Alter + Drop>(
 fn open_connected<S: Alter + Drop>(
     alloc: Global,
     connection: Connection<S>,
-) -> Result<JournaledBook<S>, ExitFault>
-    ensures ok { IfOk result (λ j. GivesFile (λ held. state S.Store held) connection (log_of j.book)) }
+) -> Result<JournaledBook<Book, S>, ExitFault>
+    ensures ok { IfOk result (λ j. GivesFile (λ held. state S.Store held) connection (log_of (λ b. b.log) j.book)) }
     ensures err { IfErr result (GivesNoFile (λ held. state S.Store held) connection) }
 {
     match Journal::open(connection) {

@@ -1,5 +1,5 @@
 -- What stays true of a journal and its book.
-use Rattle.std.proofs.Common.{◌≡◌, inl, ℕ, List, [], ◌∷◌, ◌++◌, Option, None, Some, Result, Ok, Err, IsTrue, OnOk, OnErr, refl, sym, ap, subst, arith}
+use Rattle.std.proofs.Common.{◌≡◌, ℕ, List, [], ◌∷◌, ◌++◌, Option, None, Some, Result, Ok, Err, IsTrue, OnOk, OnErr, refl, sym, subst, arith}
 use Rattle.sqlite.specs.Effect.{Database}
 use Rattle.sqlite.specs.State.{State, HasCleanDisk, Survives}
 use Rattle.sqlite.specs.Tree.{Trees}
@@ -7,12 +7,10 @@ use Rattle.book_log.specs.Log.{Log, appended}
 use Rattle.book_log.specs.declared.begin.Begin.{Begin}
 use Rattle.book_log.specs.declared.entry.Entry.{Entry}
 use Rattle.book_journal.specs.Entries.{entries, HoldLines}
-use Rattle.book_journal.specs.Kept.{lines_in, IsAtRest, IsSame, MayAdd}
-use Rattle.rollback_book.specs.Book.{BookView}
-use Rattle.journaled_book.specs.Changes.{Appends, AppendsAll, IsRead}
+use Rattle.book_journal.specs.Kept.{IsSame, MayAdd}
+use Rattle.journaled_book.specs.Changes.{Appends, AppendsAll}
 use Rattle.journaled_book.specs.Journaled.{GoesOnBy, HasLinesOf, IsJournalOf}
 use Rattle.journaled_book.specs.Lines.{AreLinesOf, IsBeginLine, IsLineOf}
-use Rattle.journaled_book.specs.Opening.{OpensTo}
 use Rattle.journaled_book.proofs.Given.{first_line, gone_on, more_lines}
 
 clean_before : (old new : State) (P : Trees → Type 0) → Survives old new P → HasCleanDisk new → HasCleanDisk old
@@ -59,10 +57,10 @@ module _ {T E : Type 0} (old new : State) (line : List ℕ) where
       subst (λ (s : Log). IsJournalOf new (Some s)) (sym same) (added_kept result x (Some log) (Some (appended log entry)) is h (λ lines are. more_lines lines log line entry are says) a)
 
   -- the book was changed, or the append was refused
-  pub changed_kept : (result : Result T E) (before after : BookView) (entry : Entry) → IsJournalOf old (Some before.log) → IsLineOf line entry → OnOk result (after.log ≡ appended before.log entry) → OnErr result (after ≡ before)
-      → Appends old new line result → IsJournalOf new (Some after.log)
-  changed_kept (Ok x) before after entry h says ok err a = entered_kept (Ok x) x before.log after.log entry refl h says ok a
-  changed_kept (Err e) before after entry h says ok err a = subst (λ (b : BookView). IsJournalOf new (Some b.log)) (sym err) (refused_kept (Err e) e (Some before.log) refl h a)
+  pub changed_kept : {B : Type 0} (log : B → Log) (result : Result T E) (before after : B) (entry : Entry) → IsJournalOf old (Some (log before)) → IsLineOf line entry → OnOk result (log after ≡ appended (log before) entry)
+      → OnErr result (after ≡ before) → Appends old new line result → IsJournalOf new (Some (log after))
+  changed_kept log (Ok x) before after entry h says ok err a = entered_kept (Ok x) x (log before) (log after) entry refl h says ok a
+  changed_kept log (Err e) before after entry h says ok err a = subst (λ b. IsJournalOf new (Some (log b))) (sym err) (refused_kept (Err e) e (Some (log before)) refl h a)
 
   -- the same, with another answer
   pub replayed : {U : Type 0} → (result : Result T E) (x : T) (y : U) → result ≡ Ok x → Appends old new line result → Appends {T = U} {E = E} old new line (Ok y)
@@ -86,27 +84,3 @@ module _ {T E : Type 0} (old new : State) (more : List (List ℕ)) where
         (held.0 ++ more, it.lines held.0 held.1, gone_on held.0 more before after held.2 goes);
     rest = a.at_rest;
   }
-
--- ---- without an append
-
-module _ {T E : Type 0} (s : State) (line : List ℕ) (result : Result T E) (e : E) where
-  -- nothing was appended, since something else was refused before
-  pub nothing_appended : result ≡ Err e → IsAtRest s → Appends s s line result
-  nothing_appended is rest = subst (Appends s s line) (sym is) (record {
-    ok = λ clean. tt;
-    err = λ clean up. (up, refl);
-    crash = λ clean up trees may. inl (ap entries (rest clean up trees may));
-    survives = record { clean = omega arith; shield = λ h. h; counts = omega arith; limit = refl; closes = λ clean up. inl up; crash = λ clean db may. inl may };
-    at_rest = rest;
-  })
-
--- ---- an opened journal
-
-pub opened_kept : (old new : State) (log : Option Log) → IsRead old new → (HasCleanDisk new → OpensTo (lines_in old) log) → IsJournalOf new log
-opened_kept old new log read opens = record {
-  lines = λ clean up.
-      let s = read.same clean up in
-      let it = opens clean in
-      (it.0, subst (λ (d : Database). HoldLines (entries d.trees) it.0) (sym s.1) it.1, it.2.are_lines);
-  rest = read.at_rest;
-}

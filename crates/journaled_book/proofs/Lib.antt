@@ -1,6 +1,6 @@
 pub mod Said
 pub mod Given
 pub mod Kept
-pub use Rattle.rollback_book.proofs.Threads
 pub mod Unopened
-pub use Rattle.rollback_book.proofs.Cursors
+pub use Rattle.book_events.proofs.Threads
+pub use Rattle.book_events.proofs.Cursors

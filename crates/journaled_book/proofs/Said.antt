@@ -14,12 +14,11 @@ use Rattle.book_log.specs.declared.begin.Begin.{Begin}
 use Rattle.book_log.specs.declared.entry.Entry.{Entry}
 use Rattle.book_log.specs.declared.refusal.Refusal.{Refusal}
 use Rattle.command_lines.specs.Grammar as command_view
-use Rattle.command_lines.specs.Grammar.{CommandView, command_of}
-use Rattle.rollback_book.specs.Making.{IsCommandAnswered, made_entry}
-use Rattle.rollback_book.specs.declared.making.Change.{Change}
-use Rattle.rollback_book.specs.declared.making.Change.TheVariants as change
-use Rattle.rollback_book.specs.declared.making.Made.{Made}
-use Rattle.rollback_book.proofs.Threads.{step_thread}
+use Rattle.command_lines.specs.Grammar.{command_of}
+use Rattle.book_events.specs.Answered.{IsCommandAnswered, entry_by}
+use Rattle.book_events.specs.declared.change.Change.{Change}
+use Rattle.book_events.specs.declared.change.Change.TheVariants as change
+use Rattle.book_events.proofs.Threads.{step_thread}
 use Rattle.journaled_book.specs.Lines.{IsBeginLine, IsLineOf, SaysChange, Adds}
 
 -- ---- the table's line
@@ -64,15 +63,16 @@ entry_said log (change.Rollback step) entry line h says = subst (IsLineOf line) 
 entry_said log change.Settle entry line h says = subst (IsLineOf line) (sym h.1) says
 entry_said log (change.Hold step) entry line h says = subst (IsLineOf line) (sym h.2) says
 
-pub said_if_ok : (log : Log) (what : Change) (r : Result Made Refusal) → IsCommandAnswered log what (made_entry r) → IfOk r (λ made. (line : List ℕ) → SaysChange what line → IsLineOf line made.entry)
-said_if_ok log what (Ok made) h = λ line says. entry_said log what made.entry line h says
-said_if_ok log what (Err e) h = tt
+pub said_if_ok : {M : Type 0} (entry_in : M → Entry) (log : Log) (what : Change) (r : Result M Refusal) → IsCommandAnswered log what (entry_by entry_in r)
+    → IfOk r (λ made. (line : List ℕ) → SaysChange what line → IsLineOf line (entry_in made))
+said_if_ok entry_in log what (Ok made) h = λ line says. entry_said log what (entry_in made) line h says
+said_if_ok entry_in log what (Err e) h = tt
 
-pub entry_added : (log between after : Log) (what : Change) (entry : Entry) → IsCommandAnswered log what (Ok entry) → IsAccepted between entry → between ≡ log → after ≡ appended between entry
+pub entry_added : (log between after : Log) (what : Change) (entry : Entry) → IsCommandAnswered log what (Ok entry) → IsAccepted log entry → between ≡ log → after ≡ appended between entry
     → (line : List ℕ) → SaysChange what line → Adds log line after
 entry_added log between after what entry h is_accepted same is line says = record {
   entry = entry;
   is_line = entry_said log what entry line h says;
-  is_accepted = subst (λ (s : Log). IsAccepted s entry) same is_accepted;
+  is_accepted = is_accepted;
   after_is = is ∙ ap (λ (s : Log). appended s entry) same;
 }

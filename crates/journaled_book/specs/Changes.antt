@@ -9,9 +9,6 @@ use Rattle.book_journal.specs.Entries.{AddLines, HoldLines}
 use Rattle.book_journal.specs.Faults.{journal_fault_of}
 use Rattle.book_journal.specs.Kept.{lines_in, IsAtRest, IsSame, LeavesAllOrNone, MayAdd}
 use Rattle.book_journal.specs.declared.fault.JournalFault.{JournalFault}
-use Rattle.rollback_book.specs.Book.{BookView}
-use Rattle.rollback_book.specs.Making.{CanEnter}
-use Rattle.rollback_book.specs.declared.making.Made.{Made}
 use Rattle.journaled_book.specs.declared.fault.BeginRefusal.{BeginRefusal}
 use Rattle.journaled_book.specs.declared.fault.BeginRefusal.TheVariants as begin_refusal
 
@@ -50,9 +47,9 @@ IsStoreFault fault = (cause : Error) × (fault ≡ journal_fault_of cause)
 -- ---- the book
 
 -- everything is made for this command, and the book is as it was left when this was made
-abbrev pub IsMadeReady : Option BookView → Made → Type 0
-IsMadeReady None m = ⊥
-IsMadeReady (Some b) m = CanEnter b m
+abbrev pub IsMadeReady : {B M : Type 0} → (B → M → Type 0) → Option B → M → Type 0
+IsMadeReady can_enter None m = ⊥
+IsMadeReady can_enter (Some b) m = can_enter b m
 
 -- an item is none, or memory was refused, or the journal refused the line
 abbrev pub RefusesBegin : Begin → BeginRefusal → Type 0

@@ -7,26 +7,26 @@ use Rattle.book_log.specs.Log.{Log, appended}
 use Rattle.book_log.specs.declared.entry.Entry.{Entry}
 use Rattle.book_journal.specs.Entries.{HoldLines}
 use Rattle.book_journal.specs.Kept.{lines_in, IsAtRest}
-use Rattle.rollback_book.specs.Book.{BookView}
 use Rattle.journaled_book.specs.Lines.{AreEntryLines, AreLinesOf}
 
 -- the book, none before its table is given, and what the journal's connection holds
-pub record Journaled (S : Type 0) : Type 0 where
-  pub book : Option BookView
+pub record Journaled (B S : Type 0) : Type 0 where
+  pub book : Option B
   pub journal : Held S
 
-abbrev pub journaled_code : {S : Type 0} → Coded (Option BookView) → Coded S → Coded (Journaled S)
-journaled_code {S} book store =
-    code_by (Option BookView × Held S) (coded× book (held_code store)) (λ j. (j.book, j.journal)) (λ p. record { book = p.0; journal = p.1 }) (λ _. refl)
+abbrev pub journaled_code : {B S : Type 0} → Coded (Option B) → Coded S → Coded (Journaled B S)
+journaled_code {B} {S} book store =
+    code_by (Option B × Held S) (coded× book (held_code store)) (λ j. (j.book, j.journal)) (λ p. record { book = p.0; journal = p.1 }) (λ _. refl)
 
-abbrev pub log_of : Option BookView → Option Log
-log_of book = option_map (λ b. b.log) book
+-- the log of a book
+abbrev pub log_of : {B : Type 0} → (B → Log) → Option B → Option Log
+log_of log book = option_map log book
 
 abbrev pub with_entry : Option Log → Entry → Option Log
 with_entry log entry = option_map (λ s. appended s entry) log
 
 -- the journal of a book that went on, or of one that is away
-abbrev pub journal_of : {S : Type 0} → Result (Journaled S) (Journaled S) → Held S
+abbrev pub journal_of : {B S : Type 0} → Result (Journaled B S) (Journaled B S) → Held S
 journal_of (Ok book) = book.journal
 journal_of (Err away) = away.journal
 

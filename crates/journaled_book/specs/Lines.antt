@@ -8,7 +8,7 @@ use Rattle.json_tree.specs.Reading.{read_json}
 use Rattle.json_tree.specs.View.{data_of}
 use Rattle.json_tree.specs.declared.tree.Json.{Json}
 use Rattle.asl_tree.specs.Definition.{Definition}
-use Rattle.rollback_book.specs.Profile.{Defines}
+use Rattle.book_log.specs.Profile.{Defines}
 use Rattle.step_names.specs.Thread.{Thread}
 use Rattle.book_log.specs.Beginning.{begun_table}
 use Rattle.book_log.specs.Legal.{IsAccepted}
@@ -18,8 +18,8 @@ use Rattle.book_log.specs.declared.entry.Entry.{Entry}
 use Rattle.book_log.specs.declared.entry.Entry.TheVariants.{Define, Start, Step as Stepped, Undo, Rollback, Settle, Hold}
 use Rattle.command_lines.specs.Grammar as command_view
 use Rattle.command_lines.specs.Grammar.{command_of}
-use Rattle.rollback_book.specs.declared.making.Change.{Change}
-use Rattle.rollback_book.specs.declared.making.Change.TheVariants as change
+use Rattle.book_events.specs.declared.change.Change.{Change}
+use Rattle.book_events.specs.declared.change.Change.TheVariants as change
 
 -- the line is a table's, with these first items
 pub record IsBeginLine (line : List ℕ) (begin : Begin) : Type 0 where

@@ -6,8 +6,8 @@ ghost use Rattle.journaled_book.specs.Changes.{AppendsAll};
 ghost use Rattle.journaled_book.specs.Journaled.{GoesOnBy, IsJournalOf, journal_of, log_of};
 
 use crate::book::JournaledBook;
+use book_events::BookCalls;
 use book_journal::Journal;
-use rollback_book::Book;
 use sqlite::Alter;
 use std::marker::Model;
 use std::snapshot::Snapshot;
@@ -17,30 +17,29 @@ use std::snapshot::Snapshot;
 ///
 /// Contracts see the book as it was, and what the journal's connection shows.
 #[derive(Drop)]
-pub struct AwayBook<S: Alter> {
-    was: Snapshot<Book>,
+pub struct AwayBook<B: BookCalls, S: Alter> {
+    was: Snapshot<B>,
     journal: Journal<S>,
 }
 
-impl<S: Alter> Model for AwayBook<S> {
+impl<B: BookCalls, S: Alter> Model for AwayBook<B, S> {
     ghost use Rattle.std.specs.Prelude.{Some};
     ghost use Rattle.journaled_book.specs.Journaled.{Journaled, journaled_code, IsJournalOf};
     ghost use Rattle.std.specs.Coded.{coded_option};
     ghost use Rattle.sqlite.specs.Held.{state};
-    ghost use Rattle.rollback_book.specs.contracts.book.Book as book_row;
 
-    ghost Value = { Journaled S };
+    ghost Value = { Journaled B S };
 
-    ghost coded = { journaled_code (coded_option book_row.the_row.coded) S.code };
+    ghost coded = { journaled_code (coded_option B.code) S.code };
 
     ghost view = { λ j. record { book = Some j.was.value; journal = j.journal } };
 
-    ghost invariant = { λ j. IsJournalOf (state S.Store j.journal) (Some j.was.value.log) };
+    ghost invariant = { λ j. IsJournalOf (state S.Store j.journal) (Some (B.log j.was.value)) };
 }
 
-impl<S: Alter> JournaledBook<S> {
+impl<B: BookCalls, S: Alter> JournaledBook<B, S> {
     /// Takes the book out. Takes no memory.
-    pub fn take_out(self) -> (Book, AwayBook<S>)
+    pub fn take_out(self) -> (B, AwayBook<B, S>)
         requires open { IsSome self.book }
         ensures book { self.book ≡ Some result.0 }
         ensures away { result.1 ≡ self }
@@ -52,10 +51,10 @@ impl<S: Alter> JournaledBook<S> {
     }
 }
 
-impl<S: Alter> AwayBook<S> {
+impl<B: BookCalls, S: Alter> AwayBook<B, S> {
     /// Puts the book back, whose log is the one from before. Takes no memory.
-    pub fn put_back(self, book: Book) -> JournaledBook<S>
-        requires same { log_of self.book ≡ Some book.log }
+    pub fn put_back(self, book: B) -> JournaledBook<B, S>
+        requires same { log_of B.log self.book ≡ Some (B.log book) }
         ensures book { result.book ≡ Some book }
         ensures journal { result.journal ≡ self.journal }
     {
@@ -71,8 +70,8 @@ impl<S: Alter> AwayBook<S> {
     /// # Errors
     ///
     /// As the journal refuses the lines, all of them. The book is dropped then, and the journal is as it was.
-    pub fn append(self, book: Book, lines: &[&str]) -> Result<JournaledBook<S>, AwayBook<S>>
-        requires lines { GoesOnBy (texts lines.now) (log_of self.book) book.log }
+    pub fn append(self, book: B, lines: &[&str]) -> Result<JournaledBook<B, S>, AwayBook<B, S>>
+        requires lines { GoesOnBy (texts lines.now) (log_of B.log self.book) (B.log book) }
         ensures ok { IfOk result (λ back. back.book ≡ Some book) }
         ensures err { IfErr result (λ away. away.book ≡ self.book) }
         ensures journal { AppendsAll (state S.Store self.journal) (state S.Store (journal_of result)) (texts lines.now) result }
@@ -93,7 +92,7 @@ impl<S: Alter> AwayBook<S> {
     /// The journal, which holds the lines of the book as it was. Takes no memory.
     pub fn journal(&self) -> &Journal<S>
         ensures same { result.now ≡ self.now.journal }
-        ensures journal { IsJournalOf (state S.Store self.now.journal) (log_of self.now.book) }
+        ensures journal { IsJournalOf (state S.Store self.now.journal) (log_of B.log self.now.book) }
     {
         &self.journal
     }
@@ -101,7 +100,7 @@ impl<S: Alter> AwayBook<S> {
     /// The journal, which holds the lines of the book as it was.
     pub fn into_journal(self) -> Journal<S>
         ensures same { result ≡ self.journal }
-        ensures journal { IsJournalOf (state S.Store result) (log_of self.book) }
+        ensures journal { IsJournalOf (state S.Store result) (log_of B.log self.book) }
     {
         let AwayBook { was: _, journal } = self;
         journal

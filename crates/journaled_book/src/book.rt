@@ -2,8 +2,9 @@ ghost use Rattle.std.specs.Prelude.{◌≡◌, ℕ, List, [], None, Some, IsOk, 
 ghost use Rattle.sqlite.specs.Held.{state};
 ghost use Rattle.sqlite.specs.State.{HasCleanDisk};
 ghost use Rattle.book_log.specs.Beginning.{begun_table};
+ghost use Rattle.book_log.specs.Legal.{IsAccepted};
 ghost use Rattle.book_journal.specs.Kept.{lines_in};
-ghost use Rattle.rollback_book.specs.Making.{IsCommandAnswered, IsProperChange, made_entry};
+ghost use Rattle.book_events.specs.Answered.{IsCommandAnswered, IsProperChange, entry_by};
 ghost use Rattle.journaled_book.specs.Changes.{Appends, IsRead, IsMadeReady, IsStoreFault, RefusesBegin};
 ghost use Rattle.journaled_book.specs.Journaled.{IsJournalOf, log_of, with_entry};
 ghost use Rattle.journaled_book.specs.Lines.{IsBeginLine, IsLineOf, SaysChange};
@@ -12,9 +13,9 @@ ghost use Rattle.journaled_book.specs.Opening.{OpensTo, RefusesOpen};
 use crate::changing;
 use crate::fault::{BeginRefusal, OpenFault};
 use crate::loading::load;
+use book_events::{BookCalls, Change};
 use book_journal::{Journal, JournalFault};
 use book_log::{Begin, Refusal};
-use rollback_book::{Book, Change, Made};
 use sqlite::Alter;
 use std::alloc::Global;
 use std::marker::Model;
@@ -25,27 +26,26 @@ use std::marker::Model;
 /// Contracts see the book and what the journal's connection shows. While the disk is clean and the connection open, the
 /// journal's lines are those of the book's log.
 #[derive(Drop)]
-pub struct JournaledBook<S: Alter> {
-    pub(crate) book: Option<Book>,
+pub struct JournaledBook<B: BookCalls, S: Alter> {
+    pub(crate) book: Option<B>,
     pub(crate) journal: Journal<S>,
 }
 
-impl<S: Alter> Model for JournaledBook<S> {
+impl<B: BookCalls, S: Alter> Model for JournaledBook<B, S> {
     ghost use Rattle.journaled_book.specs.Journaled.{Journaled, journaled_code, IsJournalOf, log_of};
     ghost use Rattle.std.specs.Coded.{coded_option};
     ghost use Rattle.sqlite.specs.Held.{state};
-    ghost use Rattle.rollback_book.specs.contracts.book.Book as book_row;
 
-    ghost Value = { Journaled S };
+    ghost Value = { Journaled B S };
 
-    ghost coded = { journaled_code (coded_option book_row.the_row.coded) S.code };
+    ghost coded = { journaled_code (coded_option B.code) S.code };
 
     ghost view = { λ j. record { book = j.book; journal = j.journal } };
 
-    ghost invariant = { λ j. IsJournalOf (state S.Store j.journal) (log_of j.book) };
+    ghost invariant = { λ j. IsJournalOf (state S.Store j.journal) (log_of B.log j.book) };
 }
 
-impl<S: Alter> JournaledBook<S> {
+impl<B: BookCalls, S: Alter> JournaledBook<B, S> {
     /// Loads the journal's lines and applies them one after another, without replies: no text is read twice. A journal without
     /// lines gives no book. Takes memory for all lines at once, which is given back, and for the book; time is that of its commands.
     ///
@@ -56,8 +56,8 @@ impl<S: Alter> JournaledBook<S> {
     pub fn open(
         alloc: Global,
         journal: Journal<S>,
-    ) -> Result<JournaledBook<S>, (OpenFault, Journal<S>)>
-        ensures opened { IfOk result (λ j. HasCleanDisk (state S.Store j.journal) → OpensTo (lines_in (state S.Store journal)) (log_of j.book)) }
+    ) -> Result<JournaledBook<B, S>, (OpenFault, Journal<S>)>
+        ensures opened { IfOk result (λ j. HasCleanDisk (state S.Store j.journal) → OpensTo (lines_in (state S.Store journal)) (log_of B.log j.book)) }
         ensures refused { IfErr result (λ e. HasCleanDisk (state S.Store e.1) → RefusesOpen (state S.Store journal) (state S.Store e.1) e.0) }
         ensures memory { IfErr result (λ e. ¬ (e.0 ≡ OpenFault.Journal JournalFault.Memory)) }
         ensures read { MatchResult result (λ j. IsRead (state S.Store journal) (state S.Store j.journal)) (λ e. IsRead (state S.Store journal) (state S.Store e.1)) }
@@ -70,9 +70,9 @@ impl<S: Alter> JournaledBook<S> {
     }
 
     /// The book, once its table was given. Takes no memory.
-    pub fn book(&self) -> Option<&Book>
+    pub fn book(&self) -> Option<&B>
         ensures book { option_map (λ book. book.now) result ≡ self.now.book }
-        ensures journal { IsJournalOf (state S.Store self.now.journal) (log_of self.now.book) }
+        ensures journal { IsJournalOf (state S.Store self.now.journal) (log_of B.log self.now.book) }
     {
         self.book.as_ref()
     }
@@ -87,7 +87,7 @@ impl<S: Alter> JournaledBook<S> {
     /// The journal, which holds the lines of the book.
     pub fn into_journal(self) -> Journal<S>
         ensures same { result ≡ self.journal }
-        ensures journal { IsJournalOf (state S.Store result) (log_of self.book) }
+        ensures journal { IsJournalOf (state S.Store result) (log_of B.log self.book) }
     {
         let JournaledBook { book, journal } = self;
         drop(book);
@@ -102,7 +102,7 @@ impl<S: Alter> JournaledBook<S> {
     pub fn begin(&mut self, alloc: Global, begin: Begin, line: &str) -> Result<(), BeginRefusal>
         requires closed { self.old.book ≡ None }
         requires line { IsBeginLine line.now begin }
-        ensures ok { OnOk result ((log_of self.new.book ≡ Some (record { begin = begin; entries = [] })) × IsOk (begun_table begin)) }
+        ensures ok { OnOk result ((log_of B.log self.new.book ≡ Some (record { begin = begin; entries = [] })) × IsOk (begun_table begin)) }
         ensures refused { IfErr result (RefusesBegin begin) }
         ensures err { OnErr result (self.new.book ≡ None) }
         ensures journal { Appends (state S.Store self.old.journal) (state S.Store self.new.journal) line.now result }
@@ -118,13 +118,14 @@ impl<S: Alter> JournaledBook<S> {
     /// # Errors
     ///
     /// As the book refuses the command.
-    pub fn prepare(&mut self, alloc: Global, change: Change<'_>) -> Result<Made, Refusal>
+    pub fn prepare(&mut self, alloc: Global, change: Change<'_>) -> Result<B::Made, Refusal>
         requires open { IsSome self.old.book }
         requires proper { IsProperChange change }
-        ensures answer { IfSome self.old.book (λ b. IsCommandAnswered b.log change.entry (made_entry result)) }
-        ensures ready { IfOk result (λ made. IsMadeReady self.new.book made) }
-        ensures line { IfOk result (λ made. (line : List ℕ) → SaysChange change.entry line → IsLineOf line made.entry) }
-        ensures log { log_of self.new.book ≡ log_of self.old.book }
+        ensures answer { IfSome self.old.book (λ b. IsCommandAnswered (B.log b) change.entry (entry_by B.entry_in result)) }
+        ensures accepted { IfSome self.old.book (λ b. IfOk result (λ made. IsAccepted (B.log b) (B.entry_in made))) }
+        ensures ready { IfOk result (λ made. IsMadeReady B.can_enter self.new.book made) }
+        ensures line { IfOk result (λ made. (line : List ℕ) → SaysChange change.entry line → IsLineOf line (B.entry_in made)) }
+        ensures log { log_of B.log self.new.book ≡ log_of B.log self.old.book }
         ensures journal { self.new.journal ≡ self.old.journal }
     {
         let Some(book) = &mut self.book else {
@@ -139,10 +140,10 @@ impl<S: Alter> JournaledBook<S> {
     /// # Errors
     ///
     /// As the journal refuses the line. Book and journal are as before then.
-    pub fn enter(&mut self, made: Made, line: &str) -> Result<(), JournalFault>
-        requires ready { IsMadeReady self.old.book made }
-        requires line { IsLineOf line.now made.entry }
-        ensures ok { OnOk result (log_of self.new.book ≡ with_entry (log_of self.old.book) made.entry) }
+    pub fn enter(&mut self, made: B::Made, line: &str) -> Result<(), JournalFault>
+        requires ready { IsMadeReady B.can_enter self.old.book made }
+        requires line { IsLineOf line.now (B.entry_in made) }
+        ensures ok { OnOk result (log_of B.log self.new.book ≡ with_entry (log_of B.log self.old.book) (B.entry_in made)) }
         ensures refused { IfErr result IsStoreFault }
         ensures err { OnErr result (self.new.book ≡ self.old.book) }
         ensures journal { Appends (state S.Store self.old.journal) (state S.Store self.new.journal) line.now result }
@@ -155,7 +156,7 @@ impl<S: Alter> JournaledBook<S> {
 }
 
 /// In a function of its own, since an assignment drops the old value.
-fn put(place: &mut Option<Book>, book: Book)
+fn put<B: BookCalls>(place: &mut Option<B>, book: B)
     requires { place.old ≡ None }
     ensures { place.new ≡ Some book }
 {

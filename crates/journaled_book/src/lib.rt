@@ -14,5 +14,5 @@ mod parts;
 
 pub use away::AwayBook;
 pub use book::JournaledBook;
+pub use book_events as calls;
 pub use fault::{BeginRefusal, EntryFault, OpenFault};
-pub use rollback_book as books;

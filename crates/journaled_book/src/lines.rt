@@ -1,13 +1,9 @@
 // What one line does to a book.
 ghost use Rattle.std.specs.Prelude.{◌≡◌, ℕ, List, Err, IfOk, OnOk, Some, None};
-ghost use Rattle.book_log.specs.Beginning.{begun_table};
-ghost use Rattle.book_log.specs.Legal.{IsAccepted};
-ghost use Rattle.book_log.specs.Log.{Log, appended};
 ghost use Rattle.book_log.specs.declared.refusal.Refusal.{Refusal};
 ghost use Rattle.command_lines.specs.Grammar as grammar;
 ghost use Rattle.command_lines.specs.Grammar.{command_view};
-ghost use Rattle.rollback_book.specs.Making.{IsCommandAnswered, IsProperChange, made_entry};
-ghost use Rattle.rollback_book.specs.declared.making.Made.{Made};
+ghost use Rattle.book_events.specs.Answered.{IsProperChange};
 ghost use Rattle.journaled_book.specs.Journaled.{log_of};
 ghost use Rattle.journaled_book.specs.Lines.{Adds, Begins, Follows, IsDamaged, SaysChange};
 ghost use Rattle.journaled_book.specs.Reading.{AddsBy, BeginsBy, IsDamagedBy, refused_line};
@@ -15,16 +11,20 @@ ghost use Rattle.journaled_book.specs.Reading.{AddsBy, BeginsBy, IsDamagedBy, re
 use crate::fault::LineFault;
 use crate::parts::{open_book, read_definition, read_items, read_value};
 use attr_values::KeySchema;
+use book_events::{BookCalls, Change};
 use book_log::{Begin, Refusal};
 use command_lines::{Command, CommandFault, Execution};
 use json_tree::Text;
-use rollback_book::{Book, Change};
 use std::alloc::Global;
 
 /// The book after one more line: the first begins it, and each other is one entry.
-pub(crate) fn add_line(alloc: Global, book: Option<Book>, line: &str) -> Result<Book, LineFault>
-    ensures ok { IfOk result (λ b. Follows (log_of book) line.now b.log) }
-    ensures damaged { result ≡ Err LineFault.Damaged → IsDamaged (log_of book) line.now }
+pub(crate) fn add_line<B: BookCalls>(
+    alloc: Global,
+    book: Option<B>,
+    line: &str,
+) -> Result<B, LineFault>
+    ensures ok { IfOk result (λ b. Follows (log_of B.log book) line.now (B.log b)) }
+    ensures damaged { result ≡ Err LineFault.Damaged → IsDamaged (log_of B.log book) line.now }
 {
     match book {
         None => begin_by_line(alloc, line),
@@ -41,8 +41,8 @@ pub(crate) fn add_line(alloc: Global, book: Option<Book>, line: &str) -> Result<
     }
 }
 
-fn begin_by_line(alloc: Global, line: &str) -> Result<Book, LineFault>
-    ensures ok { IfOk result (λ b. Begins line.now b.log) }
+fn begin_by_line<B: BookCalls>(alloc: Global, line: &str) -> Result<B, LineFault>
+    ensures ok { IfOk result (λ b. Begins line.now (B.log b)) }
     ensures damaged { result ≡ Err LineFault.Damaged → IsDamaged None line.now }
 {
     match Command::read_text(alloc, line) {
@@ -52,8 +52,8 @@ fn begin_by_line(alloc: Global, line: &str) -> Result<Book, LineFault>
     }
 }
 
-fn begin_by(alloc: Global, command: Command<'_>) -> Result<Book, LineFault>
-    ensures ok { IfOk result (λ b. BeginsBy (command_view command.entry) b.log) }
+fn begin_by<B: BookCalls>(alloc: Global, command: Command<'_>) -> Result<B, LineFault>
+    ensures ok { IfOk result (λ b. BeginsBy (command_view command.entry) (B.log b)) }
     ensures damaged { result ≡ Err LineFault.Damaged → IsDamagedBy None (command_view command.entry) }
 {
     match command {
@@ -69,13 +69,13 @@ fn begin_by(alloc: Global, command: Command<'_>) -> Result<Book, LineFault>
     }
 }
 
-fn begin_table(
+fn begin_table<B: BookCalls>(
     alloc: Global,
     table: Text,
     schema: KeySchema,
     items: &str,
-) -> Result<Book, LineFault>
-    ensures ok { IfOk result (λ b. BeginsBy (grammar.table table schema items.now) b.log) }
+) -> Result<B, LineFault>
+    ensures ok { IfOk result (λ b. BeginsBy (grammar.table table schema items.now) (B.log b)) }
     ensures damaged { result ≡ Err LineFault.Damaged → IsDamagedBy None (grammar.table table schema items.now) }
 {
     match read_items(alloc, items) {
@@ -95,9 +95,9 @@ fn begin_table(
     }
 }
 
-fn enter_line(alloc: Global, book: &mut Book, line: &str) -> Result<(), LineFault>
-    ensures ok { OnOk result (Adds book.old.log line.now book.new.log) }
-    ensures damaged { result ≡ Err LineFault.Damaged → IsDamaged (Some book.old.log) line.now }
+fn enter_line<B: BookCalls>(alloc: Global, book: &mut B, line: &str) -> Result<(), LineFault>
+    ensures ok { OnOk result (Adds (B.log book.old) line.now (B.log book.new)) }
+    ensures damaged { result ≡ Err LineFault.Damaged → IsDamaged (Some (B.log book.old)) line.now }
 {
     match Command::read_text(alloc, line) {
         Ok(command) => enter_command(alloc, book, command),
@@ -106,9 +106,13 @@ fn enter_line(alloc: Global, book: &mut Book, line: &str) -> Result<(), LineFaul
     }
 }
 
-fn enter_command(alloc: Global, book: &mut Book, command: Command<'_>) -> Result<(), LineFault>
-    ensures ok { OnOk result (AddsBy book.old.log (command_view command.entry) book.new.log) }
-    ensures damaged { result ≡ Err LineFault.Damaged → IsDamagedBy (Some book.old.log) (command_view command.entry) }
+fn enter_command<B: BookCalls>(
+    alloc: Global,
+    book: &mut B,
+    command: Command<'_>,
+) -> Result<(), LineFault>
+    ensures ok { OnOk result (AddsBy (B.log book.old) (command_view command.entry) (B.log book.new)) }
+    ensures damaged { result ≡ Err LineFault.Damaged → IsDamagedBy (Some (B.log book.old)) (command_view command.entry) }
 {
     match command {
         Command::Define { name, definition } => enter_define(alloc, book, &name, definition),
@@ -129,14 +133,14 @@ fn enter_command(alloc: Global, book: &mut Book, command: Command<'_>) -> Result
     }
 }
 
-fn enter_define(
+fn enter_define<B: BookCalls>(
     alloc: Global,
-    book: &mut Book,
+    book: &mut B,
     name: &Text,
     definition: &str,
 ) -> Result<(), LineFault>
-    ensures ok { OnOk result (AddsBy book.old.log (grammar.define name.now definition.now) book.new.log) }
-    ensures damaged { result ≡ Err LineFault.Damaged → IsDamagedBy (Some book.old.log) (grammar.define name.now definition.now) }
+    ensures ok { OnOk result (AddsBy (B.log book.old) (grammar.define name.now definition.now) (B.log book.new)) }
+    ensures damaged { result ≡ Err LineFault.Damaged → IsDamagedBy (Some (B.log book.old)) (grammar.define name.now definition.now) }
 {
     let definition = read_definition(alloc, definition)?;
     enter_change(
@@ -149,15 +153,15 @@ fn enter_define(
     )
 }
 
-fn enter_start(
+fn enter_start<B: BookCalls>(
     alloc: Global,
-    book: &mut Book,
+    book: &mut B,
     exec: &Execution,
     machine: &Text,
     input: &str,
 ) -> Result<(), LineFault>
-    ensures ok { OnOk result (AddsBy book.old.log (grammar.start exec.now.thread machine.now input.now) book.new.log) }
-    ensures damaged { result ≡ Err LineFault.Damaged → IsDamagedBy (Some book.old.log) (grammar.start exec.now.thread machine.now input.now) }
+    ensures ok { OnOk result (AddsBy (B.log book.old) (grammar.start exec.now.thread machine.now input.now) (B.log book.new)) }
+    ensures damaged { result ≡ Err LineFault.Damaged → IsDamagedBy (Some (B.log book.old)) (grammar.start exec.now.thread machine.now input.now) }
 {
     let input = read_value(alloc, input)?;
     enter_change(
@@ -171,10 +175,14 @@ fn enter_start(
     )
 }
 
-fn enter_change(alloc: Global, book: &mut Book, change: Change<'_>) -> Result<(), LineFault>
+fn enter_change<B: BookCalls>(
+    alloc: Global,
+    book: &mut B,
+    change: Change<'_>,
+) -> Result<(), LineFault>
     requires { IsProperChange change }
-    ensures ok { OnOk result ((line : List ℕ) → SaysChange change.entry line → Adds book.old.log line book.new.log) }
-    ensures damaged { result ≡ Err LineFault.Damaged → (line : List ℕ) → SaysChange change.entry line → IsDamaged (Some book.old.log) line }
+    ensures ok { OnOk result ((line : List ℕ) → SaysChange change.entry line → Adds (B.log book.old) line (B.log book.new)) }
+    ensures damaged { result ≡ Err LineFault.Damaged → (line : List ℕ) → SaysChange change.entry line → IsDamaged (Some (B.log book.old)) line }
 {
     match book.ready_entry(alloc, change) {
         Ok(made) => {

@@ -10,17 +10,17 @@ ghost use Rattle.journaled_book.specs.Reading.{fault_at, open_fault_of};
 
 use crate::fault::{LineFault, OpenFault};
 use crate::lines::add_line;
+use book_events::BookCalls;
 use book_journal::{Journal, JournalFault};
-use rollback_book::Book;
 use sqlite::Alter;
 use std::alloc::Global;
 
 /// The book of a journal's lines, none where it has none.
-pub(crate) fn load<S: Alter>(
+pub(crate) fn load<B: BookCalls, S: Alter>(
     alloc: Global,
     journal: &mut Journal<S>,
-) -> Result<Option<Book>, OpenFault>
-    ensures opened { HasCleanDisk (state S.Store journal.new) → IfOk result (λ book. OpensTo (lines_in (state S.Store journal.old)) (log_of book)) }
+) -> Result<Option<B>, OpenFault>
+    ensures opened { HasCleanDisk (state S.Store journal.new) → IfOk result (λ book. OpensTo (lines_in (state S.Store journal.old)) (log_of B.log book)) }
     ensures refused { HasCleanDisk (state S.Store journal.new) → IfErr result (RefusesOpen (state S.Store journal.old) (state S.Store journal.new)) }
     ensures memory { ¬ (result ≡ Err (OpenFault.Journal JournalFault.Memory)) }
     ensures journal { IsRead (state S.Store journal.old) (state S.Store journal.new) }
@@ -39,8 +39,8 @@ fn open_fault(fault: JournalFault) -> OpenFault
 }
 
 /// The book of these lines, which are applied one after another.
-fn book_of(alloc: Global, lines: &[String]) -> Result<Option<Book>, OpenFault>
-    ensures ok { IfOk result (λ book. Give (map string_bytes lines.now) (log_of book)) }
+fn book_of<B: BookCalls>(alloc: Global, lines: &[String]) -> Result<Option<B>, OpenFault>
+    ensures ok { IfOk result (λ book. Give (map string_bytes lines.now) (log_of B.log book)) }
     ensures damaged { (place : ℕ) → result ≡ Err (OpenFault.Damaged place) → HasDamageAt (map string_bytes lines.now) place }
     ensures named { (fault : JournalFault) → ¬ (result ≡ Err (OpenFault.Journal fault)) }
 {

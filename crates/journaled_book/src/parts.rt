@@ -10,9 +10,9 @@ ghost use Rattle.book_log.specs.Beginning.{begun_table};
 
 use crate::fault::LineFault;
 use attr_values::ItemFault;
+use book_events::BookCalls;
 use book_log::Begin;
 use json_tree::{Json, JsonFault, JsonList, read};
-use rollback_book::Book;
 use serde_json::Value;
 use std::alloc::Global;
 
@@ -59,11 +59,11 @@ pub(crate) fn read_definition(alloc: Global, text: &str) -> Result<Value, LineFa
 }
 
 /// A book without entries.
-pub(crate) fn open_book(alloc: Global, begin: Begin) -> Result<Book, LineFault>
-    ensures ok { IfOk result (λ book. (book.log ≡ record { begin = begin; entries = [] }) × IsOk (begun_table begin)) }
+pub(crate) fn open_book<B: BookCalls>(alloc: Global, begin: Begin) -> Result<B, LineFault>
+    ensures ok { IfOk result (λ book. (B.log book ≡ record { begin = begin; entries = [] }) × IsOk (begun_table begin)) }
     ensures damaged { result ≡ Err LineFault.Damaged → ¬ (IsOk (begun_table begin)) }
 {
-    match Book::open(alloc, begin) {
+    match B::open(alloc, begin) {
         Ok(book) => Ok(book),
         Err(ItemFault::Memory) => Err(LineFault::Memory),
         Err(_) => Err(LineFault::Damaged),

@@ -54,9 +54,6 @@ module _ {X : Type 0} (R : Option (List ℕ) → X → X → Type 0) where
     pub line_is : line ≡ kept_front tail
     pub until : (more : List ℕ) → RunsUntil R (lines_after front (piece ++ more)) (lines_after tail (rest ++ more)) s t
 
-  pub hands-begins : (front piece : List ℕ) (line : Option (List ℕ)) (s : X) → line ≡ kept_front front → HandsSoFar front piece piece line s s
-  hands-begins front piece line s e = record { tail = front; line_is = e; until = λ more. until-none (lines_after front (piece ++ more)) s s refl }
-
   module _ (front piece rest bytes after : List ℕ) (line : Option (List ℕ)) (s t u : X) (h : has_no_feed bytes ≡ true) (parted : rest ≡ bytes ++ 10 ∷ after) (soon : HandsSoFar front piece rest line s t) where
     here : (more : List ℕ) → RunsUntil R (lines_after front (piece ++ more)) (lines_after soon.tail (bytes ++ 10 ∷ (after ++ more))) s t
     here more =

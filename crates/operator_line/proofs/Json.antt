@@ -1,13 +1,10 @@
 -- JSON of a line, and what is told where it is none.
-use Rattle.std.proofs.Common.{◌≡◌, ℕ, List, [], ◌∷◌, Option, Some, None, OnOk, refl, sym, ap, subst, inl, inr}
-use Rattle.std.specs.Prelude.{◌⊎◌, Result, Ok, Err, IsOk, IsSome, option_and_then}
-use Rattle.std.specs.declared.alloc.AllocError.{AllocError}
-use Rattle.std.proofs.lemmas.Result.{on_ok_weaker}
+use Rattle.std.proofs.Common.{◌≡◌, ℕ, List, [], ◌∷◌, Option, Some, None, refl, sym, ap, subst, inr}
+use Rattle.std.specs.Prelude.{◌⊎◌, Result, Ok, Err, IsOk, option_and_then}
 use Rattle.serde_json.specs.Data as source
 use Rattle.json_tree.specs.Data.{Data, list, items_of}
 use Rattle.json_tree.specs.Reading.{source_of, whole_of, read_json}
-use Rattle.json_tree.specs.declared.fault.JsonFault.{JsonFault}
-use Rattle.json_tree.specs.declared.fault.JsonFault.TheVariants.{NotJson, NotWhole, Memory}
+use Rattle.json_tree.specs.declared.fault.JsonFault.TheVariants.{Memory}
 use Rattle.book_log.specs.Log.{Log}
 use Rattle.attr_values.specs.declared.key.KeySchema.{KeySchema}
 use Rattle.attr_values.specs.declared.fault.ItemFault.{ItemFault}
@@ -19,8 +16,8 @@ use Rattle.book_log.specs.declared.begin.Begin.{Begin}
 use Rattle.journaled_book.specs.Changes.{RefusesBegin}
 use Rattle.journaled_book.specs.declared.fault.BeginRefusal.{BeginRefusal}
 use Rattle.journaled_book.specs.declared.fault.BeginRefusal.TheVariants as not_begun
-use Rattle.operator_line.specs.Answers.{AnswersUnchanged, journal_reply, OfJson, OfSource, OfWhole, values_in, AnswersItems, AnswersBegin, AnswersBeginning}
-use Rattle.reply_lines.specs.Replies.{done_reply, json_reply, item_fault_reply, refused_by}
+use Rattle.operator_line.specs.Answers.{journal_reply, OfJson, OfSource, OfWhole, values_in, AnswersItems, AnswersBegin, AnswersBeginning}
+use Rattle.reply_lines.specs.Replies.{item_fault_reply}
 
 of_whole : (w : Option Data) (d : Data) (Refused : List ℕ → Type 0) (Read : Data → Type 0) → w ≡ Some d → Read d → OfWhole w Refused Read
 of_whole None d Refused Read e p = cc
@@ -33,22 +30,6 @@ of_source (Some x) d Refused Read e p = of_whole (whole_of x) d Refused Read e p
 -- a value that is read
 pub json-read : (json : List ℕ) (d : Data) (Refused : List ℕ → Type 0) (Read : Data → Type 0) → read_json json ≡ Some d → Read d → OfJson json Refused Read
 json-read json d Refused Read e p = of_source (source_of json) d Refused Read e p
-
-of_part : {U : Type 0} → (s : Option source.Data) (r : Result U AllocError) (text : List ℕ) (book : Option Log) (Read : Data → Type 0)
-    → IsSome s → option_and_then whole_of s ≡ None → OnOk r (text ≡ refused_by 25 2) → OnOk r (OfSource s (λ told. AnswersUnchanged told book text book) Read)
-of_part None r text book Read some fails w = cc
-of_part (Some x) r text book Read some fails w =
-    subst (λ (o : Option Data). OnOk r (OfWhole o (λ told. AnswersUnchanged told book text book) Read)) (sym fails) (on_ok_weaker r (λ e. (e, refl)) w)
-
--- and one that isn't
-pub json-refused : {U : Type 0} → (json : List ℕ) (fault : JsonFault) (r : Result U AllocError) (text : List ℕ) (book : Option Log) (Read : Data → Type 0)
-    → (fault ≡ NotJson → source_of json ≡ None)
-    → (fault ≡ NotWhole → IsSome (source_of json) × (read_json json ≡ None))
-    → (fault ≡ Memory → OnOk r ⊥) → OnOk r (text ≡ json_reply fault) → OnOk r (OfJson json (λ told. AnswersUnchanged told book text book) Read)
-json-refused json NotJson r text book Read none part memory w =
-    subst (λ (s : Option source.Data). OnOk r (OfSource s (λ told. AnswersUnchanged told book text book) Read)) (sym (none refl)) (on_ok_weaker r (λ e. (e, refl)) w)
-json-refused json NotWhole r text book Read none part memory w = of_part (source_of json) r text book Read (part refl).0 (part refl).1 w
-json-refused json Memory r text book Read none part memory w = on_ok_weaker r (λ b. absurd b) (memory refl)
 
 -- the items of a list are its values
 pub values_of : (ds : List Data) → values_in (items_of ds) ≡ ds

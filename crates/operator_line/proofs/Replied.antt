@@ -21,23 +21,20 @@ use Rattle.book_log.specs.declared.refusal.Refusal.TheVariants.{Memory}
 use Rattle.book_log.specs.declared.moved.Moved.{Moved}
 use Rattle.command_lines.specs.Grammar as grammar
 use Rattle.command_lines.specs.Grammar.{CommandView, command_of}
-use Rattle.journaled_book.specs.Book.{BookView}
 use Rattle.journaled_book.specs.Change.{Change}
 use Rattle.journaled_book.specs.Change.TheVariants as change
-use Rattle.journaled_book.specs.Changes.{IsMadeReady}
 use Rattle.journaled_book.specs.Journaled.{log_of}
 use Rattle.journaled_book.specs.Lines.{IsStartLine, SaysChange}
-use Rattle.journaled_book.specs.Made.{Made}
-use Rattle.journaled_book.specs.Making.{IsCommandAnswered}
+use Rattle.journaled_book.specs.Answered.{IsCommandAnswered}
 use Rattle.journaled_book.specs.Planned.{OrMemory}
 use Rattle.operator_line.specs.Answers.{AnswersAppended, AnswersClosed, AnswersDefine, AnswersInput, AnswersOpen, AnswersStarted, AnswersUnchanged, RepliesHold, RepliesRollback, RepliesSettle, RepliesStep, RepliesUndo}
 use Rattle.operator_line.proofs.Json.{json-read}
 use Rattle.reply_lines.specs.Replies.{entry_reply, no_table, refusal_reply, refused}
 
 -- what holds of a book's log holds of this one
-pub in_log : (P : Log → Type 0) (book : Option BookView) (log : Log) → log_of book ≡ Some log → IfSome book (λ b. P b.log) → P log
-in_log P None log is h = cc
-in_log P (Some b) log is h = let same : b.log ≡ log = cc in subst P same h
+pub in_log : {B : Type 0} (log_in : B → Log) (P : Log → Type 0) (book : Option B) (log : Log) → log_of log_in book ≡ Some log → IfSome book (λ b. P (log_in b)) → P log
+in_log log_in P None log is h = cc
+in_log log_in P (Some b) log is h = let same : log_in b ≡ log = cc in subst P same h
 
 -- ---- a command of one entry
 
@@ -123,11 +120,6 @@ module _ (line : List ℕ) (command : CommandView) (is : command_of line ≡ Som
 pub refused_told : {U : Type 0} (e : Refusal) (r : Result U AllocError) (Told Answers : Type 0) → ((e ≡ Memory → ⊥) → Told → Answers) → (e ≡ Memory → OnOk r ⊥) → OnOk r Told → OnOk r Answers
 refused_told e (Ok x) Told Answers answers memory told = answers memory told
 refused_told e (Err f) Told Answers answers memory told = tt
-
--- what is made ready is accepted, as the log from before has it
-pub entry_accepted : (book now : Option BookView) (m : Made) (log : Log) → IsMadeReady now m → log_of now ≡ log_of book → log_of book ≡ Some log → IsAccepted log m.entry
-entry_accepted book None m log ready same is = absurd ready
-entry_accepted book (Some n) m log ready same is = let one : n.log ≡ log = same_Some n.log log (same ∙ is) in subst (λ (l : Log). IsAccepted l m.entry) one ready.is_accepted
 
 -- ---- a history
 

@@ -305,14 +305,6 @@ pub record IsSoFar (front : List ℕ) (piece : List ℕ) (rest : List ℕ) (has_
   pub until : (more : List ℕ) → AnswersUntil (lines_after front (piece ++ more)) (lines_after tail (rest ++ more)) s t o n
   pub up_to : has_line ≡ true → (more : List ℕ) → AnswersUpTo (lines_after front (piece ++ more)) s t o n
 
-pub so_far-begins : (front piece : List ℕ) (line : Option (List ℕ)) (s : Option Log) (o : Option (List ℕ)) → line ≡ kept_front front → IsSoFar front piece piece false line s s o o
-so_far-begins front piece line s o e = record {
-  tail = front;
-  line_is = e;
-  until = λ more. until-none (lines_after front (piece ++ more)) s o;
-  up_to = λ h. cc;
-}
-
 module _ (front piece rest bytes after : List ℕ) (has_line : Bool) (line : Option (List ℕ)) (s t u : Option Log) (o p n : Option (List ℕ)) (h : has_no_feed bytes ≡ true) (parted : rest ≡ bytes ++ 10 ∷ after)
     (soon : IsSoFar front piece rest has_line line s t o p) where
   here : (more : List ℕ) → AnswersUntil (lines_after front (piece ++ more)) (lines_after soon.tail ((bytes ++ 10 ∷ after) ++ more)) s t o p
@@ -339,9 +331,6 @@ module _ (front piece rest : List ℕ) (has_line : Bool) (line line' : Option (L
     e ∙ ap (grown rest) soon.line_is ∙ kept-grown soon.tail rest,
     λ more. until-kept (lines_after front (piece ++ more)) (lines_after (soon.tail ++ rest) more) s t o p n (rest-kept front piece soon.tail rest s t o p h soon.until more) keeps,
   )
-
-  pub so_far-unread : ServesPiece (Err Memory) front piece line' s t o p
-  so_far-unread = λ more. record { later = lines_after soon.tail (rest ++ more); until = soon.until more }
 
   pub so_far-unflushed : has_line ≡ true → Keeps p n → ServesPiece (Err Write) front piece line' s t o n
   so_far-unflushed h keeps = λ more. up_to-kept (lines_after front (piece ++ more)) s t o p n (soon.up_to h more) keeps

@@ -1,17 +1,15 @@
 -- Sessions with a book, and without.
-use Rattle.std.proofs.Common.{◌≡◌, ℕ, List, [], ◌∷◌, Bool, true, false, if◌then◌else◌, Option, None, Some, Ok, Err, OnOk, OnErr, inl, inr, refl, sym, ap, subst, arith}
+use Rattle.std.proofs.Common.{◌≡◌, ℕ, List, [], ◌∷◌, Bool, true, false, if◌then◌else◌, Option, None, Some, Ok, Err, OnOk, OnErr, inr, refl, sym, ap, subst, arith}
 use Rattle.std.specs.Prelude.{Result, is_some, IfOk, IfSome, IsSome}
 use Rattle.std.specs.Str.{is_utf8}
 use Rattle.std.specs.declared.alloc.AllocError.{AllocError}
 use Rattle.book_log.specs.Log.{Log}
-use Rattle.book_log.specs.declared.entry.Entry.{Entry}
 use Rattle.command_lines.specs.Grammar.{CommandView, command_of, text_command, command_view}
 use Rattle.command_lines.specs.declared.command.Command.{Command}
 use Rattle.command_lines.specs.declared.command.Command.TheVariants.{Table, Define, Start, Step, Undo, Plan, Rollback, Settle, Hold, Drive, Work, Show, Items, History, Held}
 use Rattle.sqlite.specs.State.{State, HasCleanDisk}
-use Rattle.journaled_book.specs.Book.{BookView}
-use Rattle.journaled_book.specs.Changes.{Appends, AppendsAll}
-use Rattle.journaled_book.specs.Journaled.{log_of, with_entry}
+use Rattle.journaled_book.specs.Changes.{AppendsAll}
+use Rattle.journaled_book.specs.Journaled.{log_of}
 use Rattle.reply_lines.specs.Replies.{refused}
 use Rattle.operator_line.specs.Answers.{AnswersOpen, AnswersClosed, AnswersCommand, AnswersView}
 use Rattle.operator_line.specs.Answering.{AnswersBy, AnswersTextBy, is_work}
@@ -19,31 +17,31 @@ use Rattle.operator_line.specs.Sessions.{KeepsLine, KeepsOne, KeepsRead, WasClea
 use Rattle.operator_line.specs.declared.session.Answered.{Answered}
 use Rattle.operator_line.specs.declared.session.Answered.TheVariants.{Told, Lost}
 
-pub answers_open : {U : Type 0} → (book : Option BookView) (command : CommandView) (r : Result U AllocError) (text : List ℕ) (after : Option Log) → is_some book ≡ true
-    → ((b : BookView) → book ≡ Some b → OnOk r (AnswersOpen b.log command text after)) → OnOk r (AnswersCommand (log_of book) command text after)
-answers_open None command r text after is h = cc
-answers_open (Some b) command r text after is h = h b refl
+pub answers_open : {B U : Type 0} (log : B → Log) (book : Option B) (command : CommandView) (r : Result U AllocError) (text : List ℕ) (after : Option Log) → is_some book ≡ true
+    → ((b : B) → book ≡ Some b → OnOk r (AnswersOpen (log b) command text after)) → OnOk r (AnswersCommand (log_of log book) command text after)
+answers_open log None command r text after is h = cc
+answers_open log (Some b) command r text after is h = h b refl
 
 -- where a table is given, the book that there is then
-pub answers_begun : {U : Type 0} → (book : Option BookView) (command : CommandView) (r : Result U AllocError) (text : List ℕ) (after : Option Log) → is_some book ≡ false
-    → OnOk r (AnswersClosed command text after) → OnOk r (AnswersCommand (log_of book) command text after)
-answers_begun None command r text after is h = h
-answers_begun (Some b) command r text after is h = cc
+pub answers_begun : {B U : Type 0} (log : B → Log) (book : Option B) (command : CommandView) (r : Result U AllocError) (text : List ℕ) (after : Option Log) → is_some book ≡ false
+    → OnOk r (AnswersClosed command text after) → OnOk r (AnswersCommand (log_of log book) command text after)
+answers_begun log None command r text after is h = h
+answers_begun log (Some b) command r text after is h = cc
 
-pub answers_closed : {U : Type 0} → (book : Option BookView) (command : CommandView) (r : Result U AllocError) (text : List ℕ) → is_some book ≡ false
-    → OnOk r (AnswersClosed command text None) → OnOk r (AnswersCommand (log_of book) command text (log_of book))
-answers_closed None command r text is h = h
-answers_closed (Some b) command r text is h = cc
+pub answers_closed : {B U : Type 0} (log : B → Log) (book : Option B) (command : CommandView) (r : Result U AllocError) (text : List ℕ) → is_some book ≡ false
+    → OnOk r (AnswersClosed command text None) → OnOk r (AnswersCommand (log_of log book) command text (log_of log book))
+answers_closed log None command r text is h = h
+answers_closed log (Some b) command r text is h = cc
 
-pub some_log : (book : Option BookView) → IsSome book → (log : Log) × (log_of book ≡ Some log)
-some_log None some = cc
-some_log (Some b) some = (b.log, refl)
+pub some_log : {B : Type 0} (log_in : B → Log) (book : Option B) → IsSome book → (log : Log) × (log_of log_in book ≡ Some log)
+some_log log_in None some = cc
+some_log log_in (Some b) some = (log_in b, refl)
 
 -- a book stays where its log does
-pub some_kept : (old new : Option BookView) → IsSome old → log_of new ≡ log_of old → IsSome new
-some_kept None new some same = cc
-some_kept (Some b) None some same = cc
-some_kept (Some b) (Some a) some same = refl
+pub some_kept : {B : Type 0} (log : B → Log) (old new : Option B) → IsSome old → log_of log new ≡ log_of log old → IsSome new
+some_kept log None new some same = cc
+some_kept log (Some b) None some same = cc
+some_kept log (Some b) (Some a) some same = refl
 
 pub if_log : (P : Log → Type 0) (o : Option Log) → ((s : Log) → o ≡ Some s → P s) → IfSome o P
 if_log P None h = tt

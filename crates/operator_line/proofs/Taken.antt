@@ -1,6 +1,6 @@
 -- Steps that are taken one after another, while some are left to take.
 use Rattle.std.proofs.Common.{◌≡◌, ◌<◌, ◌+◌, ◌-◌, ◌^◌, ℕ, zero, suc, List, [], ◌∷◌, ◌++◌, map, length, true, false, Bool, not, ◌&&◌, ◌||◌, cond, Option, None, Some, Result, Ok, Err, inl, inr, refl, sym, ap, subst, ◌∙◌, arith}
-use Rattle.std.specs.Prelude.{◌⊎◌, IfOk, IfSome, IsOk, OnOk}
+use Rattle.std.specs.Prelude.{◌⊎◌, IfOk, IfSome, OnOk}
 use Rattle.std.specs.BTreeSet.{BTreeSet}
 use Rattle.std.specs.Ordering.{eq_by_cmp}
 use Rattle.std.proofs.lemmas.List.{append_assoc, append-nil, length-append, length-map, map-append}
@@ -8,7 +8,6 @@ use Rattle.step_names.specs.Order.{thread_cmp}
 use Rattle.step_names.specs.Thread.{Thread}
 use Rattle.step_names.specs.Written.{step_text}
 use Rattle.step_names.specs.declared.step.StepName.{StepName}
-use Rattle.book_journal.specs.declared.fault.JournalFault.{JournalFault}
 use Rattle.book_log.specs.Answers.{is_enabled, step_answer}
 use Rattle.book_log.proofs.Elsewhere.{steps_leave_others}
 use Rattle.book_log.specs.Legal.{IsAccepted, IsLegal}

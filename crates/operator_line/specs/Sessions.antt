@@ -8,35 +8,34 @@ use Rattle.book_journal.specs.Kept.{IsSame}
 use Rattle.book_log.specs.Log.{Log}
 use Rattle.command_lines.specs.Grammar as command_view
 use Rattle.command_lines.specs.Grammar.{CommandView, command_of}
-use Rattle.journaled_book.specs.Book.{BookView}
 use Rattle.journaled_book.specs.Changes.{HasLines}
 use Rattle.journaled_book.specs.Journaled.{Journaled, log_of}
 use Rattle.operator_line.specs.declared.session.Hand.{Hand}
 use Rattle.operator_line.specs.declared.session.Hand.TheVariants.{Open, Failed}
 
-pub record Sitting (S : Type 0) : Type 0 where
+pub record Sitting (B S : Type 0) : Type 0 where
   pub is_failed : Bool
-  pub book : Option BookView
+  pub book : Option B
   pub journal : Held S
 
-abbrev pub sitting : {S : Type 0} → Bool → Journaled S → Sitting S
+abbrev pub sitting : {B S : Type 0} → Bool → Journaled B S → Sitting B S
 sitting is_failed held = record { is_failed = is_failed; book = held.book; journal = held.journal }
 
-abbrev pub sitting_code : {S : Type 0} → Coded (Journaled S) → Coded (Sitting S)
-sitting_code {S} held =
-    code_by (Bool × Journaled S) (coded× coded_bool held) (λ s. (s.is_failed, record { book = s.book; journal = s.journal })) (λ p. sitting p.0 p.1) (λ _. refl)
+abbrev pub sitting_code : {B S : Type 0} → Coded (Journaled B S) → Coded (Sitting B S)
+sitting_code {B} {S} held =
+    code_by (Bool × Journaled B S) (coded× coded_bool held) (λ s. (s.is_failed, record { book = s.book; journal = s.journal })) (λ p. sitting p.0 p.1) (λ _. refl)
 
-abbrev pub sitting_of : {S : Type 0} → Hand S → Sitting S
+abbrev pub sitting_of : {B S M : Type 0} → Hand B S M → Sitting B S
 sitting_of (Open held) = sitting false held
 sitting_of (Failed held) = sitting true held
 
 -- the log of the journal's lines, none before a table is given
-abbrev pub session_log : {S : Type 0} → Sitting S → Option Log
-session_log session = log_of session.book
+abbrev pub session_log : {B S : Type 0} → (B → Log) → Sitting B S → Option Log
+session_log log session = log_of log session.book
 
 -- the same of a session that hasn't failed
-abbrev pub log_in : {S : Type 0} → Journaled S → Option Log
-log_in held = log_of held.book
+abbrev pub log_in : {B S : Type 0} → (B → Log) → Journaled B S → Option Log
+log_in log held = log_of log held.book
 
 -- ---- the line of a command
 

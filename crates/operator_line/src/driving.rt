@@ -11,7 +11,7 @@ ghost use Rattle.reply_lines.specs.Replying.{AreLines, has_room_for_lines};
 use crate::open_session::refuse_change;
 use book_log::{Entry, Refusal};
 use command_lines::step_line;
-use journaled_book::books::{Change, Cursor};
+use journaled_book::calls::{BookCalls, Change, Cursor};
 use journaled_book::{EntryFault, JournaledBook};
 use reply_lines::{Lines, Reply};
 use sqlite::Alter;
@@ -34,16 +34,16 @@ pub(crate) enum Tried {
 /// needs what is held is passed by. Room for the reply is made before each step, and each stands in the journal by a line of its
 /// own. A step takes what the book's `first_ready_from` and `step` take: a thread that is passed by is gone by once, and once more
 /// after each step of its own execution.
-pub(crate) fn drive<S: Alter>(
+pub(crate) fn drive<B: BookCalls, S: Alter>(
     alloc: Global,
-    book: &mut JournaledBook<S>,
+    book: &mut JournaledBook<B, S>,
     count: u32,
     reply: &mut Reply,
 ) -> Result<(), AllocError>
     requires open { IsSome book.old.book }
     requires empty { string_bytes reply.old.text ≡ [] }
-    ensures ok { IfSome (log_in book.old) (λ log. OnOk result (AnswersDrive log count (string_bytes reply.new.text) (log_in book.new))) }
-    ensures err { OnErr result (log_in book.new ≡ log_in book.old) }
+    ensures ok { IfSome (log_in B.log book.old) (λ log. OnOk result (AnswersDrive log count (string_bytes reply.new.text) (log_in B.log book.new))) }
+    ensures err { OnErr result (log_in B.log book.new ≡ log_in B.log book.old) }
     ensures clean { WasClean (λ held. state S.Store held) book.old.journal book.new.journal }
 {
     let mut lines = Lines::new(alloc);
@@ -55,9 +55,9 @@ pub(crate) fn drive<S: Alter>(
 }
 
 /// The fault is the one at which it ended, if any.
-fn take_steps<S: Alter>(
+fn take_steps<B: BookCalls, S: Alter>(
     alloc: Global,
-    book: &mut JournaledBook<S>,
+    book: &mut JournaledBook<B, S>,
     count: u32,
     lines: &mut Lines,
     reply: &mut Reply,
@@ -65,7 +65,7 @@ fn take_steps<S: Alter>(
     requires open { IsSome book.old.book }
     requires empty { AreLines lines.old [] }
     requires room { has_room_for_lines reply.old.text (string_len lines.old.text) }
-    ensures taken { TakenOf count (log_in book.old) (log_in book.new) lines.new result }
+    ensures taken { TakenOf count (log_in B.log book.old) (log_in B.log book.new) lines.new result }
     ensures text { string_bytes reply.new.text ≡ string_bytes reply.old.text }
     ensures room { has_room_for_lines reply.new.text (string_len lines.new.text) }
     ensures clean { WasClean (λ held. state S.Store held) book.old.journal book.new.journal }
@@ -84,21 +84,21 @@ fn take_steps<S: Alter>(
     None
 }
 
-fn take_step<S: Alter>(
+fn take_step<B: BookCalls, S: Alter>(
     alloc: Global,
-    book: &mut JournaledBook<S>,
+    book: &mut JournaledBook<B, S>,
     passed: &mut BTreeSet<ThreadName>,
     cursor: &mut Cursor,
     lines: &mut Lines,
     reply: &mut Reply,
 ) -> Result<Tried, EntryFault>
     requires open { IsSome book.old.book }
-    requires all { LooksAtAll (log_in book.old) passed.old cursor.old }
+    requires all { LooksAtAll (log_in B.log book.old) passed.old cursor.old }
     requires few { lines.old.count + 1 < 2 ^ 32 }
     requires room { has_room_for_lines reply.old.text (string_len lines.old.text) }
-    ensures step { TakesOneOf (log_in book.old) (log_in book.new) passed.old passed.new lines.old lines.new result }
+    ensures step { TakesOneOf (log_in B.log book.old) (log_in B.log book.new) passed.old passed.new lines.old lines.new result }
     ensures grows { GrowsPassedBy passed.old passed.new result }
-    ensures all { OnOk result (LooksAtAll (log_in book.new) passed.new cursor.new) }
+    ensures all { OnOk result (LooksAtAll (log_in B.log book.new) passed.new cursor.new) }
     ensures open { IsSome book.new.book }
     ensures text { string_bytes reply.new.text ≡ string_bytes reply.old.text }
     ensures room { has_room_for_lines reply.new.text (string_len lines.new.text) }
@@ -114,7 +114,7 @@ fn take_step<S: Alter>(
         Ok(made) => made,
         Err(refusal) => return pass_by(passed, cursor, thread, EntryFault::Book(refusal)),
     };
-    let Entry::Step { name, .. } = made.entry() else {
+    let Entry::Step { name, .. } = B::entry_of(&made) else {
         unreachable!()
     };
     let no = name.no;
@@ -130,17 +130,17 @@ fn take_step<S: Alter>(
 
 /// The least thread that has a move and isn't passed by, if there is one. No look is made before the cursor.
 #[tactic(auto, using(crate::proofs::Taken::first_found, crate::proofs::Taken::first_is_free))]
-fn first_ready<S: Alter>(
+fn first_ready<B: BookCalls, S: Alter>(
     alloc: Global,
-    book: &JournaledBook<S>,
+    book: &JournaledBook<B, S>,
     passed: &BTreeSet<ThreadName>,
     cursor: &Cursor,
 ) -> Result<Option<ThreadName>, Refusal>
     requires open { IsSome book.now.book }
-    requires all { LooksAtAll (log_in book.now) passed.now cursor.now }
-    ensures first { IfSome (log_in book.now) (λ log. IfOk result (IsFirstMoving (passed_in passed.now) log)) }
-    ensures found { IfSome (log_in book.now) (λ log. IfOk result (IsFound (passed_in passed.now) log)) }
-    ensures legal { IfSome (log_in book.now) IsLegal }
+    requires all { LooksAtAll (log_in B.log book.now) passed.now cursor.now }
+    ensures first { IfSome (log_in B.log book.now) (λ log. IfOk result (IsFirstMoving (passed_in passed.now) log)) }
+    ensures found { IfSome (log_in B.log book.now) (λ log. IfOk result (IsFound (passed_in passed.now) log)) }
+    ensures legal { IfSome (log_in B.log book.now) IsLegal }
     ensures free { IfOk result (λ found. IfSome found (λ thread. passed_in passed.now thread ≡ false)) }
     ensures memory { IfErr result (λ e. e ≡ Refusal.Memory) }
 {

@@ -2,7 +2,7 @@
 ghost use Rattle.std.specs.Prelude.{◌≡◌, [], Some, None, false, string_bytes, OnOk, OnErr};
 ghost use Rattle.sqlite.specs.Held.{state};
 ghost use Rattle.journaled_book.specs.Lines.{IsBeginLine, SaysChange};
-ghost use Rattle.journaled_book.specs.Making.{IsProperChange};
+ghost use Rattle.journaled_book.specs.Answered.{IsProperChange};
 ghost use Rattle.operator_line.specs.Answering.{is_work};
 ghost use Rattle.operator_line.specs.Answers.{AnswersBeginning, AnswersCommand, change_reply, left_names};
 ghost use Rattle.operator_line.specs.Sessions.{KeepsLine, WasClean, has_own_lines, log_in};
@@ -14,9 +14,9 @@ ghost use Rattle.reply_lines.specs.Replying.{AppendsReply};
 use crate::driving::drive;
 use crate::working::tell_no_steps;
 use attr_values::{ItemFault, KeySchema};
-use book_log::Refusal;
+use book_log::{Begin, Refusal};
 use command_lines::{Command, Execution};
-use journaled_book::books::{Begin, Book, Change};
+use journaled_book::calls::{BookCalls, Change};
 use journaled_book::{BeginRefusal, EntryFault, JournaledBook};
 use json_tree::{Json, JsonFault, Text, read};
 use reply_lines::Reply;
@@ -40,24 +40,23 @@ const BAD_JSON: u32 = 25;
 
 /// The book of a session that hasn't failed, none before its table is given, and the journal of its accepted lines. Contracts see both.
 #[derive(Drop)]
-pub(crate) struct OpenSession<S: Alter> {
+pub(crate) struct OpenSession<B: BookCalls, S: Alter> {
     pub(crate) alloc: Global,
-    pub(crate) book: JournaledBook<S>,
+    pub(crate) book: JournaledBook<B, S>,
 }
 
-impl<S: Alter> Model for OpenSession<S> {
+impl<B: BookCalls, S: Alter> Model for OpenSession<B, S> {
     ghost use Rattle.std.specs.Coded.{coded_option};
-    ghost use Rattle.journaled_book.specs.BookContract as book_row;
     ghost use Rattle.journaled_book.specs.Journaled.{Journaled, journaled_code};
 
-    ghost Value = { Journaled S };
+    ghost Value = { Journaled B S };
 
-    ghost coded = { journaled_code (coded_option book_row.the_row.coded) S.code };
+    ghost coded = { journaled_code (coded_option B.code) S.code };
 
     ghost view = { λ s. s.book };
 }
 
-impl<S: Alter> OpenSession<S> {
+impl<B: BookCalls, S: Alter> OpenSession<B, S> {
     /// What a command does that isn't a round of workers, and its reply.
     #[tactic(auto, using(crate::proofs::Sessions::kept_clean))]
     pub(crate) fn run(
@@ -69,8 +68,8 @@ impl<S: Alter> OpenSession<S> {
         requires line { command_of line.now ≡ Some (command_view command) }
         requires alone { is_work (command_view command) ≡ false }
         requires empty { string_bytes reply.old.text ≡ [] }
-        ensures ok { OnOk result (AnswersCommand (log_in self.old) (command_view command.entry) (string_bytes reply.new.text) (log_in self.new)) }
-        ensures err { OnErr result (log_in self.new ≡ log_in self.old) }
+        ensures ok { OnOk result (AnswersCommand (log_in B.log self.old) (command_view command.entry) (string_bytes reply.new.text) (log_in B.log self.new)) }
+        ensures err { OnErr result (log_in B.log self.new ≡ log_in B.log self.old) }
         ensures kept { has_own_lines (Some (command_view command.entry)) ≡ false → KeepsLine (λ held. state S.Store held) line.now self.old.journal self.new.journal }
         ensures clean { WasClean (λ held. state S.Store held) self.old.journal self.new.journal }
     {
@@ -111,8 +110,8 @@ impl<S: Alter> OpenSession<S> {
     ) -> Result<(), AllocError>
         requires line { command_of line.now ≡ Some (grammar.table table schema items.now) }
         requires empty { string_bytes reply.old.text ≡ [] }
-        ensures ok { OnOk result (AnswersCommand (log_in self.old) (grammar.table table schema items.now) (string_bytes reply.new.text) (log_in self.new)) }
-        ensures err { OnErr result (log_in self.new ≡ log_in self.old) }
+        ensures ok { OnOk result (AnswersCommand (log_in B.log self.old) (grammar.table table schema items.now) (string_bytes reply.new.text) (log_in B.log self.new)) }
+        ensures err { OnErr result (log_in B.log self.new ≡ log_in B.log self.old) }
         ensures kept { KeepsLine (λ held. state S.Store held) line.now self.old.journal self.new.journal }
     {
         if self.book.is_open() {
@@ -139,8 +138,8 @@ impl<S: Alter> OpenSession<S> {
         requires closed { self.old.book ≡ None }
         requires line { IsBeginLine line.now begin }
         requires empty { string_bytes reply.old.text ≡ [] }
-        ensures ok { OnOk result (AnswersBeginning begin (string_bytes reply.new.text) (log_in self.new)) }
-        ensures err { OnErr result (log_in self.new ≡ None) }
+        ensures ok { OnOk result (AnswersBeginning begin (string_bytes reply.new.text) (log_in B.log self.new)) }
+        ensures err { OnErr result (log_in B.log self.new ≡ None) }
         ensures kept { KeepsLine (λ held. state S.Store held) line.now self.old.journal self.new.journal }
     {
         reply.accept()?;
@@ -163,8 +162,8 @@ impl<S: Alter> OpenSession<S> {
     ) -> Result<(), AllocError>
         requires line { command_of line.now ≡ Some (grammar.define name.now definition.now) }
         requires empty { string_bytes reply.old.text ≡ [] }
-        ensures ok { OnOk result (AnswersCommand (log_in self.old) (grammar.define name.now definition.now) (string_bytes reply.new.text) (log_in self.new)) }
-        ensures err { OnErr result (log_in self.new ≡ log_in self.old) }
+        ensures ok { OnOk result (AnswersCommand (log_in B.log self.old) (grammar.define name.now definition.now) (string_bytes reply.new.text) (log_in B.log self.new)) }
+        ensures err { OnErr result (log_in B.log self.new ≡ log_in B.log self.old) }
         ensures kept { KeepsLine (λ held. state S.Store held) line.now self.old.journal self.new.journal }
     {
         if !self.book.is_open() {
@@ -199,8 +198,8 @@ impl<S: Alter> OpenSession<S> {
     ) -> Result<(), AllocError>
         requires line { command_of line.now ≡ Some (grammar.start exec.now.thread machine.now input.now) }
         requires empty { string_bytes reply.old.text ≡ [] }
-        ensures ok { OnOk result (AnswersCommand (log_in self.old) (grammar.start exec.now.thread machine.now input.now) (string_bytes reply.new.text) (log_in self.new)) }
-        ensures err { OnErr result (log_in self.new ≡ log_in self.old) }
+        ensures ok { OnOk result (AnswersCommand (log_in B.log self.old) (grammar.start exec.now.thread machine.now input.now) (string_bytes reply.new.text) (log_in B.log self.new)) }
+        ensures err { OnErr result (log_in B.log self.new ≡ log_in B.log self.old) }
         ensures kept { KeepsLine (λ held. state S.Store held) line.now self.old.journal self.new.journal }
     {
         if !self.book.is_open() {
@@ -232,8 +231,8 @@ impl<S: Alter> OpenSession<S> {
         requires proper { IsProperChange change }
         requires says { SaysChange change line.now }
         requires empty { string_bytes reply.old.text ≡ [] }
-        ensures ok { (command : CommandView) → command_of line.now ≡ Some command → OnOk result (AnswersCommand (log_in self.old) command (string_bytes reply.new.text) (log_in self.new)) }
-        ensures err { OnErr result (log_in self.new ≡ log_in self.old) }
+        ensures ok { (command : CommandView) → command_of line.now ≡ Some command → OnOk result (AnswersCommand (log_in B.log self.old) command (string_bytes reply.new.text) (log_in B.log self.new)) }
+        ensures err { OnErr result (log_in B.log self.new ≡ log_in B.log self.old) }
         ensures kept { KeepsLine (λ held. state S.Store held) line.now self.old.journal self.new.journal }
     {
         if !self.book.is_open() {
@@ -244,7 +243,7 @@ impl<S: Alter> OpenSession<S> {
             Ok(made) => made,
             Err(refusal) => return reply.refuse_command(self.alloc, refusal),
         };
-        if let Err(AllocError) = reply.accept_entry(made.entry()) {
+        if let Err(AllocError) = reply.accept_entry(B::entry_of(&made)) {
             drop(made);
             return Err(AllocError);
         }
@@ -259,7 +258,7 @@ impl<S: Alter> OpenSession<S> {
 
     fn plan(&self, step: &StepName, reply: &mut Reply) -> Result<(), AllocError>
         requires { string_bytes reply.old.text ≡ [] }
-        ensures ok { OnOk result (AnswersCommand (log_in self.now) (grammar.plan step.now) (string_bytes reply.new.text) (log_in self.now)) }
+        ensures ok { OnOk result (AnswersCommand (log_in B.log self.now) (grammar.plan step.now) (string_bytes reply.new.text) (log_in B.log self.now)) }
     {
         let Some(book) = self.book.book() else {
             return reply.refuse(NO_TABLE);
@@ -272,8 +271,8 @@ impl<S: Alter> OpenSession<S> {
 
     fn drive(&mut self, count: u32, reply: &mut Reply) -> Result<(), AllocError>
         requires { string_bytes reply.old.text ≡ [] }
-        ensures ok { OnOk result (AnswersCommand (log_in self.old) (grammar.drive count) (string_bytes reply.new.text) (log_in self.new)) }
-        ensures err { OnErr result (log_in self.new ≡ log_in self.old) }
+        ensures ok { OnOk result (AnswersCommand (log_in B.log self.old) (grammar.drive count) (string_bytes reply.new.text) (log_in B.log self.new)) }
+        ensures err { OnErr result (log_in B.log self.new ≡ log_in B.log self.old) }
         ensures clean { WasClean (λ held. state S.Store held) self.old.journal self.new.journal }
     {
         if !self.book.is_open() {
@@ -284,7 +283,7 @@ impl<S: Alter> OpenSession<S> {
 
     fn show(&self, thread: &ThreadName, reply: &mut Reply) -> Result<(), AllocError>
         requires { string_bytes reply.old.text ≡ [] }
-        ensures ok { OnOk result (AnswersCommand (log_in self.now) (grammar.show thread.now) (string_bytes reply.new.text) (log_in self.now)) }
+        ensures ok { OnOk result (AnswersCommand (log_in B.log self.now) (grammar.show thread.now) (string_bytes reply.new.text) (log_in B.log self.now)) }
     {
         let Some(book) = self.book.book() else {
             return reply.refuse(NO_TABLE);
@@ -297,7 +296,7 @@ impl<S: Alter> OpenSession<S> {
 
     fn items(&self, reply: &mut Reply) -> Result<(), AllocError>
         requires { string_bytes reply.old.text ≡ [] }
-        ensures ok { OnOk result (AnswersCommand (log_in self.now) grammar.items (string_bytes reply.new.text) (log_in self.now)) }
+        ensures ok { OnOk result (AnswersCommand (log_in B.log self.now) grammar.items (string_bytes reply.new.text) (log_in B.log self.now)) }
     {
         match self.book.book() {
             Some(book) => reply.accept_items(self.alloc, book.items()),
@@ -307,7 +306,7 @@ impl<S: Alter> OpenSession<S> {
 
     fn history(&self, reply: &mut Reply) -> Result<(), AllocError>
         requires { string_bytes reply.old.text ≡ [] }
-        ensures ok { OnOk result (AnswersCommand (log_in self.now) grammar.history (string_bytes reply.new.text) (log_in self.now)) }
+        ensures ok { OnOk result (AnswersCommand (log_in B.log self.now) grammar.history (string_bytes reply.new.text) (log_in B.log self.now)) }
     {
         match self.book.book() {
             Some(book) => reply.accept_steps(book.history()),
@@ -317,7 +316,7 @@ impl<S: Alter> OpenSession<S> {
 
     fn held(&self, reply: &mut Reply) -> Result<(), AllocError>
         requires { string_bytes reply.old.text ≡ [] }
-        ensures ok { OnOk result (AnswersCommand (log_in self.now) grammar.held (string_bytes reply.new.text) (log_in self.now)) }
+        ensures ok { OnOk result (AnswersCommand (log_in B.log self.now) grammar.held (string_bytes reply.new.text) (log_in B.log self.now)) }
     {
         match self.book.book() {
             Some(book) => tell_left(self.alloc, book, reply),
@@ -328,9 +327,9 @@ impl<S: Alter> OpenSession<S> {
 
 /// Lists what is left of the hold, the latest first. Its step remains, so its plan is refused only if memory is.
 #[tactic(auto, using(crate::proofs::Left::left_planned, crate::proofs::Left::none_left_of))]
-fn tell_left(alloc: Global, book: &Book, reply: &mut Reply) -> Result<(), AllocError>
+fn tell_left<B: BookCalls>(alloc: Global, book: &B, reply: &mut Reply) -> Result<(), AllocError>
     requires { string_bytes reply.old.text ≡ [] }
-    ensures { OnOk result (string_bytes reply.new.text ≡ names_reply (left_names book.now.log)) }
+    ensures { OnOk result (string_bytes reply.new.text ≡ names_reply (left_names (B.log book.now))) }
 {
     let Some(step) = book.held() else {
         return tell_no_steps(alloc, reply);

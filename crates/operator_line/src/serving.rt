@@ -10,6 +10,7 @@ ghost use Rattle.sqlite.specs.Held.{state};
 
 use crate::line::{Line, LineBuffer};
 use crate::session::{Answered, Session};
+use journaled_book::calls::BookCalls;
 use memchr::memchr;
 use reply_lines::Reply;
 use sqlite::Alter;
@@ -66,17 +67,17 @@ struct Buffers {
 ///
 /// Takes a block of 65,536 bytes and the room of the longest line and of the longest reply. The replies to the lines of
 /// one piece of the input are flushed together.
-pub fn serve<T: Threads + Wait + Sync, R: Read, W: Write, S: Alter>(
+pub fn serve<T: Threads + Wait + Sync, R: Read, W: Write, B: BookCalls + Send, S: Alter>(
     rt: &T,
     alloc: Global,
     reader: &mut R,
     writer: &mut W,
-    session: &mut Session<S>,
+    session: &mut Session<B, S>,
 ) -> Result<(), ServeFault>
     ensures answers { session.old.is_failed ≡ false → IfSome (R.remaining reader.old) (λ input.
-        Serves result input (session_log session.old) (session_log session.new) (W.contents writer.old) (W.contents writer.new)) }
+        Serves result input (session_log B.log session.old) (session_log B.log session.new) (W.contents writer.old) (W.contents writer.new)) }
     ensures read { result ≡ Err ServeFault.Read → IfSome (R.remaining reader.old) (λ input.
-        AnswersRead input (R.remaining reader.new) (session_log session.old) (session_log session.new) (W.contents writer.old) (W.contents writer.new)) }
+        AnswersRead input (R.remaining reader.new) (session_log B.log session.old) (session_log B.log session.new) (W.contents writer.old) (W.contents writer.new)) }
     ensures whole { IfSome (R.remaining reader.old) (λ _. OnOk result (R.remaining reader.new ≡ Some [])) }
     ensures failed { session.old.is_failed ≡ false → session.new.is_failed ≡ serving_failed result }
     ensures gone { session.old.is_failed ≡ true → IsGone result session.old session.new (R.remaining reader.old) (R.remaining reader.new) (W.contents writer.old) (W.contents writer.new) }
@@ -86,18 +87,18 @@ pub fn serve<T: Threads + Wait + Sync, R: Read, W: Write, S: Alter>(
 }
 
 /// As [`serve`], but asks the reader at most so many times.
-pub fn serve_at_most<T: Threads + Wait + Sync, R: Read, W: Write, S: Alter>(
+pub fn serve_at_most<T: Threads + Wait + Sync, R: Read, W: Write, B: BookCalls + Send, S: Alter>(
     rt: &T,
     alloc: Global,
     most: u32,
     reader: &mut R,
     writer: &mut W,
-    session: &mut Session<S>,
+    session: &mut Session<B, S>,
 ) -> Result<(), ServeFault>
     ensures answers { session.old.is_failed ≡ false → IfSome (R.remaining reader.old) (λ input.
-        Serves result input (session_log session.old) (session_log session.new) (W.contents writer.old) (W.contents writer.new)) }
+        Serves result input (session_log B.log session.old) (session_log B.log session.new) (W.contents writer.old) (W.contents writer.new)) }
     ensures read { result ≡ Err ServeFault.Read → IfSome (R.remaining reader.old) (λ input.
-        AnswersRead input (R.remaining reader.new) (session_log session.old) (session_log session.new) (W.contents writer.old) (W.contents writer.new)) }
+        AnswersRead input (R.remaining reader.new) (session_log B.log session.old) (session_log B.log session.new) (W.contents writer.old) (W.contents writer.new)) }
     ensures whole { IfSome (R.remaining reader.old) (λ _. OnOk result (R.remaining reader.new ≡ Some [])) }
     ensures failed { session.old.is_failed ≡ false → session.new.is_failed ≡ serving_failed result }
     ensures gone { session.old.is_failed ≡ true → IsGone result session.old session.new (R.remaining reader.old) (R.remaining reader.new) (W.contents writer.old) (W.contents writer.new) }
@@ -110,19 +111,19 @@ pub fn serve_at_most<T: Threads + Wait + Sync, R: Read, W: Write, S: Alter>(
 }
 
 /// As `serve`, of a session that hasn't failed.
-fn serve_all<T: Threads + Wait + Sync, R: Read, W: Write, S: Alter>(
+fn serve_all<T: Threads + Wait + Sync, R: Read, W: Write, B: BookCalls + Send, S: Alter>(
     rt: &T,
     alloc: Global,
     most: u32,
     reader: &mut R,
     writer: &mut W,
-    session: &mut Session<S>,
+    session: &mut Session<B, S>,
 ) -> Result<(), ServeFault>
     requires here { session.old.is_failed ≡ false }
     ensures answers { IfSome (R.remaining reader.old) (λ input.
-        Serves result input (session_log session.old) (session_log session.new) (W.contents writer.old) (W.contents writer.new)) }
+        Serves result input (session_log B.log session.old) (session_log B.log session.new) (W.contents writer.old) (W.contents writer.new)) }
     ensures read { result ≡ Err ServeFault.Read → IfSome (R.remaining reader.old) (λ input.
-        AnswersRead input (R.remaining reader.new) (session_log session.old) (session_log session.new) (W.contents writer.old) (W.contents writer.new)) }
+        AnswersRead input (R.remaining reader.new) (session_log B.log session.old) (session_log B.log session.new) (W.contents writer.old) (W.contents writer.new)) }
     ensures whole { IfSome (R.remaining reader.old) (λ _. OnOk result (R.remaining reader.new ≡ Some [])) }
     ensures failed { session.new.is_failed ≡ serving_failed result }
     ensures handed { IfSome (R.remaining reader.old) (λ input. Hands (KeepsOne (λ held. state S.Store held)) result (lines_of input) session.old.journal session.new.journal) }
@@ -143,19 +144,19 @@ fn serve_all<T: Threads + Wait + Sync, R: Read, W: Write, S: Alter>(
 }
 
 /// Asks the reader once and answers the lines that end in what it gives. Answers whether there may be more.
-fn serve_read<T: Threads + Wait + Sync, R: Read, W: Write, S: Alter>(
+fn serve_read<T: Threads + Wait + Sync, R: Read, W: Write, B: BookCalls + Send, S: Alter>(
     rt: &T,
     reader: &mut R,
     piece: &mut [u8],
     buffers: &mut Buffers,
     writer: &mut W,
-    session: &mut Session<S>,
+    session: &mut Session<B, S>,
 ) -> Result<bool, ServeFault>
     requires some { 0 < length piece.old }
     requires here { session.old.is_failed ≡ false }
     ensures failed { session.new.is_failed ≡ serving_failed result }
     ensures read { (front : List ℕ) (text : List ℕ) → buffers.old.line ≡ kept_front front → R.remaining reader.old ≡ Some text
-        → ServesRead result front text (R.remaining reader.new) buffers.new.line (session_log session.old) (session_log session.new) (W.contents writer.old) (W.contents writer.new) }
+        → ServesRead result front text (R.remaining reader.new) buffers.new.line (session_log B.log session.old) (session_log B.log session.new) (W.contents writer.old) (W.contents writer.new) }
     ensures handed { (front : List ℕ) (text : List ℕ) → buffers.old.line ≡ kept_front front → R.remaining reader.old ≡ Some text
         → HandsRead (KeepsOne (λ held. state S.Store held)) result front text (R.remaining reader.new) buffers.new.line session.old.journal session.new.journal }
 {
@@ -177,17 +178,17 @@ fn serve_read<T: Threads + Wait + Sync, R: Read, W: Write, S: Alter>(
 
 /// Answers the lines that end in a piece of the input, and keeps what comes after them.
 #[tactic(auto, using(crate::proofs::Served::flush_keeps, crate::proofs::Served::add_keeps))]
-fn serve_piece<T: Threads + Wait + Sync, W: Write, S: Alter>(
+fn serve_piece<T: Threads + Wait + Sync, W: Write, B: BookCalls + Send, S: Alter>(
     rt: &T,
     piece: &[u8],
     buffers: &mut Buffers,
     writer: &mut W,
-    session: &mut Session<S>,
+    session: &mut Session<B, S>,
 ) -> Result<(), ServeFault>
     requires here { session.old.is_failed ≡ false }
     ensures failed { session.new.is_failed ≡ serving_failed result }
     ensures piece { (front : List ℕ) → buffers.old.line ≡ kept_front front
-        → ServesPiece result front piece.now buffers.new.line (session_log session.old) (session_log session.new) (W.contents writer.old) (W.contents writer.new) }
+        → ServesPiece result front piece.now buffers.new.line (session_log B.log session.old) (session_log B.log session.new) (W.contents writer.old) (W.contents writer.new) }
     ensures handed { (front : List ℕ) → buffers.old.line ≡ kept_front front → HandsPiece (KeepsOne (λ held. state S.Store held)) result front piece.now buffers.new.line session.old.journal session.new.journal }
 {
     let mut rest = piece;
@@ -227,16 +228,16 @@ fn line_len(bytes: &[u8]) -> usize
 
 /// Answers the line that these bytes end, before a line feed.
 #[tactic(auto, using(crate::proofs::Served::add_keeps))]
-fn serve_line<T: Threads + Wait + Sync, W: Write, S: Alter>(
+fn serve_line<T: Threads + Wait + Sync, W: Write, B: BookCalls + Send, S: Alter>(
     rt: &T,
     front: &[u8],
     buffers: &mut Buffers,
     writer: &mut W,
-    session: &mut Session<S>,
+    session: &mut Session<B, S>,
 ) -> Result<(), ServeFault>
     requires here { session.old.is_failed ≡ false }
     ensures failed { session.new.is_failed ≡ serving_failed result }
-    ensures answers { ServesLine result (ended_line (grown front.now buffers.old.line)) (session_log session.old) (session_log session.new) (W.contents writer.old) (W.contents writer.new) }
+    ensures answers { ServesLine result (ended_line (grown front.now buffers.old.line)) (session_log B.log session.old) (session_log B.log session.new) (W.contents writer.old) (W.contents writer.new) }
     ensures begun { OnOk result (buffers.new.line ≡ Some []) }
     ensures handed { OnOk result (KeepsOne (λ held. state S.Store held) (ended_line (grown front.now buffers.old.line)) session.old.journal session.new.journal) }
     ensures perhaps { OnErr result ((session.new.journal ≡ session.old.journal) ⊎ KeepsOne (λ held. state S.Store held) (ended_line (grown front.now buffers.old.line)) session.old.journal session.new.journal) }
@@ -255,15 +256,15 @@ fn serve_line<T: Threads + Wait + Sync, W: Write, S: Alter>(
 
 /// Answers what stands after the last line feed, if anything does.
 #[tactic(auto, using(crate::proofs::Served::flush_keeps, crate::proofs::Served::add_keeps))]
-fn serve_last<T: Threads + Wait + Sync, W: Write, S: Alter>(
+fn serve_last<T: Threads + Wait + Sync, W: Write, B: BookCalls + Send, S: Alter>(
     rt: &T,
     buffers: &mut Buffers,
     writer: &mut W,
-    session: &mut Session<S>,
+    session: &mut Session<B, S>,
 ) -> Result<(), ServeFault>
     requires here { session.old.is_failed ≡ false }
     ensures failed { session.new.is_failed ≡ serving_failed result }
-    ensures last { ServesLast result (last_line buffers.old.line) (session_log session.old) (session_log session.new) (W.contents writer.old) (W.contents writer.new) }
+    ensures last { ServesLast result (last_line buffers.old.line) (session_log B.log session.old) (session_log B.log session.new) (W.contents writer.old) (W.contents writer.new) }
     ensures handed { HandsLast (KeepsOne (λ held. state S.Store held)) (last_line buffers.old.line) session.old.journal session.new.journal }
 {
     let Some(last) = buffers.line.last() else {
@@ -285,16 +286,16 @@ fn add(line: &mut LineBuffer, bytes: &[u8]) -> Result<(), ServeFault>
 
 /// Answers a line, and writes its reply.
 #[tactic(auto, using(crate::proofs::Served::write_keeps, crate::proofs::Sessions::kept_one))]
-fn write_answer<T: Threads + Wait + Sync, W: Write, S: Alter>(
+fn write_answer<T: Threads + Wait + Sync, W: Write, B: BookCalls + Send, S: Alter>(
     rt: &T,
     line: Line<'_>,
     reply: &mut Reply,
     writer: &mut W,
-    session: &mut Session<S>,
+    session: &mut Session<B, S>,
 ) -> Result<(), ServeFault>
     requires here { session.old.is_failed ≡ false }
     ensures failed { session.new.is_failed ≡ serving_failed result }
-    ensures answers { ServesLine result (bytes_of line.entry) (session_log session.old) (session_log session.new) (W.contents writer.old) (W.contents writer.new) }
+    ensures answers { ServesLine result (bytes_of line.entry) (session_log B.log session.old) (session_log B.log session.new) (W.contents writer.old) (W.contents writer.new) }
     ensures no_memory { result ≡ Err ServeFault.Memory → ⊥ }
     ensures handed { KeepsOne (λ held. state S.Store held) (bytes_of line.entry) session.old.journal session.new.journal }
 {

@@ -1,5 +1,5 @@
 // A session: a book whose commands stand in a journal, until a round of workers is lost.
-ghost use Rattle.std.specs.Prelude.{◌≡◌, ◌≤◌, [], false, None, option_map, string_bytes, if◌then◌else◌, IfOk, IfErr, MatchResult, OnOk, OnErr};
+ghost use Rattle.std.specs.Prelude.{◌≡◌, ◌≤◌, [], false, None, option_map, string_bytes, if◌then◌else◌, IfOk, IfErr, MatchResult, OnErr};
 ghost use Rattle.sqlite.specs.Held.{state};
 ghost use Rattle.sqlite.specs.State.{HasCleanDisk};
 ghost use Rattle.book_journal.specs.Kept.{lines_in};
@@ -20,7 +20,7 @@ use crate::working::{Worked, work_on};
 use book_journal::Journal;
 use command_lines::{Command, CommandFault};
 use core::mem::replace_with;
-use journaled_book::books::Book;
+use journaled_book::calls::BookCalls;
 use journaled_book::{AwayBook, JournaledBook, OpenFault};
 use reply_lines::Reply;
 use sqlite::Alter;
@@ -31,11 +31,11 @@ use std::thread::Threads;
 
 /// What a session has.
 #[derive(Drop)]
-pub(crate) enum Hand<S: Alter> {
+pub(crate) enum Hand<B: BookCalls, S: Alter> {
     /// Book and journal.
-    Open(OpenSession<S>),
+    Open(OpenSession<B, S>),
     /// The journal of a book that was lost in a round.
-    Failed(AwayBook<S>),
+    Failed(AwayBook<B, S>),
 }
 
 /// What came of a line.
@@ -52,33 +52,35 @@ pub(crate) enum Answered {
 /// Where the steps of a round of workers can't be written down, the session has failed: the book is gone, and the journal is the one from
 /// before the round, of which a session can be opened.
 #[derive(Drop)]
-pub struct Session<S: Alter> {
+pub struct Session<B: BookCalls, S: Alter> {
     alloc: Global,
-    hand: Hand<S>,
+    hand: Hand<B, S>,
 }
 
-impl<S: Alter> Model for Session<S> {
+impl<B: BookCalls, S: Alter> Model for Session<B, S> {
     ghost use Rattle.std.specs.Coded.{coded_option};
-    ghost use Rattle.journaled_book.specs.BookContract as book_row;
     ghost use Rattle.journaled_book.specs.Journaled.{journaled_code};
     ghost use Rattle.operator_line.specs.Sessions.{Sitting, sitting_code, sitting_of};
 
-    ghost Value = { Sitting S };
+    ghost Value = { Sitting B S };
 
-    ghost coded = { sitting_code (journaled_code (coded_option book_row.the_row.coded) S.code) };
+    ghost coded = { sitting_code (journaled_code (coded_option B.code) S.code) };
 
     ghost view = { λ s. sitting_of s.hand };
 }
 
-impl<S: Alter> Session<S> {
+impl<B: BookCalls, S: Alter> Session<B, S> {
     /// The session of a journal's lines, which are applied one after another, without replies. Takes what
     /// [`JournaledBook::open`] takes.
     ///
     /// # Errors
     ///
     /// As `JournaledBook::open`; the journal is handed back as it was.
-    pub fn open(alloc: Global, journal: Journal<S>) -> Result<Session<S>, (OpenFault, Journal<S>)>
-        ensures opened { IfOk result (λ s. HasCleanDisk (state S.Store s.journal) → OpensTo (lines_in (state S.Store journal)) (session_log s)) }
+    pub fn open(
+        alloc: Global,
+        journal: Journal<S>,
+    ) -> Result<Session<B, S>, (OpenFault, Journal<S>)>
+        ensures opened { IfOk result (λ s. HasCleanDisk (state S.Store s.journal) → OpensTo (lines_in (state S.Store journal)) (session_log B.log s)) }
         ensures refused { IfErr result (λ e. HasCleanDisk (state S.Store e.1) → RefusesOpen (state S.Store journal) (state S.Store e.1) e.0) }
         ensures memory { IfErr result (λ e. ¬ (e.0 ≡ OpenFault.Journal journal_fault.Memory)) }
         ensures read { MatchResult result (λ s. IsRead (state S.Store journal) (state S.Store s.journal)) (λ e. IsRead (state S.Store journal) (state S.Store e.1)) }
@@ -94,9 +96,9 @@ impl<S: Alter> Session<S> {
     }
 
     /// The book, once its table was given, and none of a session that has failed. Takes no memory.
-    pub fn book(&self) -> Option<&Book>
+    pub fn book(&self) -> Option<&B>
         ensures book { option_map (λ book. book.now) result ≡ (if self.now.is_failed then None else self.now.book) }
-        ensures journal { IsJournalOf (state S.Store self.now.journal) (session_log self.now) }
+        ensures journal { IsJournalOf (state S.Store self.now.journal) (session_log B.log self.now) }
     {
         match &self.hand {
             Hand::Open(open) => open.book.book(),
@@ -118,7 +120,7 @@ impl<S: Alter> Session<S> {
     /// The journal, which holds the lines of the book, or of the one from before the round that was lost.
     pub fn into_journal(self) -> Journal<S>
         ensures same { result ≡ self.journal }
-        ensures journal { IsJournalOf (state S.Store result) (session_log self) }
+        ensures journal { IsJournalOf (state S.Store result) (session_log B.log self) }
     {
         let Session { alloc: _, hand } = self;
         match hand {
@@ -129,7 +131,9 @@ impl<S: Alter> Session<S> {
             Hand::Failed(away) => away.into_journal(),
         }
     }
+}
 
+impl<B: BookCalls + Send, S: Alter> Session<B, S> {
     /// Gives one line to the book, and writes its reply: none to an empty line. Where memory is refused, nothing has
     /// changed. Where the session fails, there is no reply.
     #[tactic(auto, using(crate::proofs::Sessions::bytes_answered, crate::proofs::Sessions::long_refused))]
@@ -140,8 +144,8 @@ impl<S: Alter> Session<S> {
         reply: &mut Reply,
     ) -> Result<Answered, AllocError>
         requires here { self.old.is_failed ≡ false }
-        ensures ok { IfOk result (λ answered. AnswersBy answered (session_log self.old) (bytes_of line.entry) (string_bytes reply.new.text) (session_log self.new)) }
-        ensures err { OnErr result (session_log self.new ≡ session_log self.old) }
+        ensures ok { IfOk result (λ answered. AnswersBy answered (session_log B.log self.old) (bytes_of line.entry) (string_bytes reply.new.text) (session_log B.log self.new)) }
+        ensures err { OnErr result (session_log B.log self.new ≡ session_log B.log self.old) }
         ensures kept { KeepsRead (λ held. state S.Store held) (bytes_of line.entry) self.old.journal self.new.journal }
         ensures empty { bytes_of line.entry ≡ Some [] → OnErr result ⊥ }
         ensures failed { self.new.is_failed ≡ is_lost result }
@@ -163,8 +167,8 @@ impl<S: Alter> Session<S> {
     ) -> Result<Answered, AllocError>
         requires here { self.old.is_failed ≡ false }
         requires empty { string_bytes reply.old.text ≡ [] }
-        ensures ok { IfOk result (λ answered. AnswersTextBy answered (session_log self.old) (command_of line.now) (string_bytes reply.new.text) (session_log self.new)) }
-        ensures err { OnErr result (session_log self.new ≡ session_log self.old) }
+        ensures ok { IfOk result (λ answered. AnswersTextBy answered (session_log B.log self.old) (command_of line.now) (string_bytes reply.new.text) (session_log B.log self.new)) }
+        ensures err { OnErr result (session_log B.log self.new ≡ session_log B.log self.old) }
         ensures kept { has_own_lines (command_of line.now) ≡ false → KeepsLine (λ held. state S.Store held) line.now self.old.journal self.new.journal }
         ensures failed { self.new.is_failed ≡ is_lost result }
         ensures clean { WasClean (λ held. state S.Store held) self.old.journal self.new.journal }
@@ -184,8 +188,8 @@ impl<S: Alter> Session<S> {
     ) -> Result<Answered, AllocError>
         requires here { self.old.is_failed ≡ false }
         requires empty { string_bytes reply.old.text ≡ [] }
-        ensures ok { IfOk result (λ answered. AnswersTextBy answered (session_log self.old) (command_of line.now) (string_bytes reply.new.text) (session_log self.new)) }
-        ensures err { OnErr result (session_log self.new ≡ session_log self.old) }
+        ensures ok { IfOk result (λ answered. AnswersTextBy answered (session_log B.log self.old) (command_of line.now) (string_bytes reply.new.text) (session_log B.log self.new)) }
+        ensures err { OnErr result (session_log B.log self.new ≡ session_log B.log self.old) }
         ensures kept { has_own_lines (command_of line.now) ≡ false → KeepsLine (λ held. state S.Store held) line.now self.old.journal self.new.journal }
         ensures failed { self.new.is_failed ≡ is_lost result }
         ensures clean { WasClean (λ held. state S.Store held) self.old.journal self.new.journal }
@@ -208,8 +212,8 @@ impl<S: Alter> Session<S> {
         requires line { command_of line.now ≡ Some (command_view command) }
         requires alone { is_work (command_view command) ≡ false }
         requires empty { string_bytes reply.old.text ≡ [] }
-        ensures ok { IfOk result (λ answered. AnswersTextBy answered (session_log self.old) (Some (command_view command.entry)) (string_bytes reply.new.text) (session_log self.new)) }
-        ensures err { OnErr result (session_log self.new ≡ session_log self.old) }
+        ensures ok { IfOk result (λ answered. AnswersTextBy answered (session_log B.log self.old) (Some (command_view command.entry)) (string_bytes reply.new.text) (session_log B.log self.new)) }
+        ensures err { OnErr result (session_log B.log self.new ≡ session_log B.log self.old) }
         ensures kept { has_own_lines (Some (command_view command.entry)) ≡ false → KeepsLine (λ held. state S.Store held) line.now self.old.journal self.new.journal }
         ensures failed { self.new.is_failed ≡ is_lost result }
         ensures clean { WasClean (λ held. state S.Store held) self.old.journal self.new.journal }
@@ -230,18 +234,18 @@ impl<S: Alter> Session<S> {
     ) -> Result<Answered, AllocError>
         requires here { self.old.is_failed ≡ false }
         requires few { (1 ≤ workers) × (workers ≤ 8) }
-        ensures ok { IfOk result (λ answered. AnswersTextBy answered (session_log self.old) (Some (grammar.work workers moves)) (string_bytes reply.new.text) (session_log self.new)) }
-        ensures err { OnErr result (session_log self.new ≡ session_log self.old) }
+        ensures ok { IfOk result (λ answered. AnswersTextBy answered (session_log B.log self.old) (Some (grammar.work workers moves)) (string_bytes reply.new.text) (session_log B.log self.new)) }
+        ensures err { OnErr result (session_log B.log self.new ≡ session_log B.log self.old) }
         ensures failed { self.new.is_failed ≡ is_lost result }
         ensures clean { WasClean (λ held. state S.Store held) self.old.journal self.new.journal }
     {
         let worked = replace_with(
             &mut self.hand,
             (),
-            |hand: Hand<S>, _: ()| -> (Hand<S>, Worked)
+            |hand: Hand<B, S>, _: ()| -> (Hand<B, S>, Worked)
                 requires here { (sitting_of hand).is_failed ≡ false }
                 requires few { (1 ≤ workers) × (workers ≤ 8) }
-                ensures worked { WorksBy result.1 (session_log (sitting_of hand)) workers moves (session_log (sitting_of result.0)) }
+                ensures worked { WorksBy result.1 (session_log B.log (sitting_of hand)) workers moves (session_log B.log (sitting_of result.0)) }
                 ensures failed { (sitting_of result.0).is_failed ≡ is_gone result.1 }
                 ensures clean { WasClean (λ held. state S.Store held) (sitting_of hand).journal (sitting_of result.0).journal }
             { work_on(rt, hand, workers, moves) },

@@ -9,7 +9,6 @@ ghost use Rattle.book_rounds.specs.Work.{IsStepEntry};
 ghost use Rattle.journaled_book.specs.Journaled.{GoesOnBy, journal_of, log_of};
 ghost use Rattle.journaled_book.specs.Lines.{AreEntryLines};
 ghost use Rattle.operator_line.specs.Answering.{GoesOnFrom, IsToldOr, SettlesWork, Stays, TellsNone, WorksBy, is_gone, since, stepped_names};
-ghost use Rattle.operator_line.specs.Answers.{HasNoRoom};
 ghost use Rattle.operator_line.specs.Sessions.{WasClean, session_log, sitting_of};
 ghost use Rattle.reply_lines.specs.Replies.{names_reply, no_table, refused};
 ghost use Rattle.reply_lines.specs.Replying.{AreLines};
@@ -19,7 +18,7 @@ use crate::session::Hand;
 use book_log::{Entry, Refusal};
 use book_rounds::{Round, RoundFault, is_full_for_step, run_round};
 use command_lines::step_line;
-use journaled_book::books::Book;
+use journaled_book::calls::BookCalls;
 use journaled_book::{AwayBook, JournaledBook};
 use reply_lines::{Lines, Reply};
 use sqlite::Alter;
@@ -41,15 +40,15 @@ pub(crate) enum Worked {
 /// Takes the book out, has a round of workers on it, writes their steps into the journal in one transaction, and puts the book back.
 /// The reply is made before they are written, since they can't be taken out of the journal again.
 #[tactic(auto, using(crate::proofs::Settling::round_goes, crate::proofs::Settling::round_few, crate::proofs::Settling::round_still, crate::proofs::Settling::settled_works, crate::proofs::Settling::stayed_works))]
-pub(crate) fn work_on<S: Alter, R: Threads + Wait + Sync>(
+pub(crate) fn work_on<B: BookCalls + Send, S: Alter, R: Threads + Wait + Sync>(
     rt: &R,
-    hand: Hand<S>,
+    hand: Hand<B, S>,
     workers: u32,
     moves: u32,
-) -> (Hand<S>, Worked)
+) -> (Hand<B, S>, Worked)
     requires here { (sitting_of hand).is_failed ≡ false }
     requires few { (1 ≤ workers) × (workers ≤ 8) }
-    ensures worked { WorksBy result.1 (session_log (sitting_of hand)) workers moves (session_log (sitting_of result.0)) }
+    ensures worked { WorksBy result.1 (session_log B.log (sitting_of hand)) workers moves (session_log B.log (sitting_of result.0)) }
     ensures failed { (sitting_of result.0).is_failed ≡ is_gone result.1 }
     ensures clean { WasClean (λ held. state S.Store held) (sitting_of hand).journal (sitting_of result.0).journal }
 {
@@ -90,16 +89,16 @@ fn no_table(alloc: Global) -> Worked
     }
 }
 
-fn entry_count(book: &Book) -> usize
-    ensures { result ≡ length book.now.log.entries }
+fn entry_count<B: BookCalls>(book: &B) -> usize
+    ensures { result ≡ length (B.log book.now).entries }
 {
     book.entries().1.len()
 }
 
 /// A book that has the log from before.
-fn open_again<S: Alter>(alloc: Global, away: AwayBook<S>, book: Book) -> Hand<S>
-    requires { log_of away.book ≡ Some book.log }
-    ensures same { session_log (sitting_of result) ≡ log_of away.book }
+fn open_again<B: BookCalls, S: Alter>(alloc: Global, away: AwayBook<B, S>, book: B) -> Hand<B, S>
+    requires { log_of B.log away.book ≡ Some (B.log book) }
+    ensures same { session_log B.log (sitting_of result) ≡ log_of B.log away.book }
     ensures here { (sitting_of result).is_failed ≡ false }
     ensures journal { (sitting_of result).journal ≡ away.journal }
 {
@@ -110,8 +109,8 @@ fn open_again<S: Alter>(alloc: Global, away: AwayBook<S>, book: Book) -> Hand<S>
 }
 
 /// Tells that no step was taken: there was none to take, or the workers were refused.
-fn stay(alloc: Global, book: &Book, is_refused: bool) -> Worked
-    ensures { Stays result book.now.log }
+fn stay<B: BookCalls>(alloc: Global, book: &B, is_refused: bool) -> Worked
+    ensures { Stays result (B.log book.now) }
 {
     let mut reply = Reply::new(alloc);
     match tell_none(alloc, book, is_refused, &mut reply) {
@@ -120,14 +119,14 @@ fn stay(alloc: Global, book: &Book, is_refused: bool) -> Worked
     }
 }
 
-fn tell_none(
+fn tell_none<B: BookCalls>(
     alloc: Global,
-    book: &Book,
+    book: &B,
     is_refused: bool,
     reply: &mut Reply,
 ) -> Result<(), AllocError>
     requires { string_bytes reply.old.text ≡ [] }
-    ensures { OnOk result (TellsNone book.now.log (string_bytes reply.new.text)) }
+    ensures { OnOk result (TellsNone (B.log book.now) (string_bytes reply.new.text)) }
 {
     if !is_refused {
         return tell_no_steps(alloc, reply);
@@ -147,10 +146,15 @@ pub(crate) fn tell_no_steps(alloc: Global, reply: &mut Reply) -> Result<(), Allo
 
 /// Writes the steps since so many entries into the journal, and puts the book back.
 #[tactic(auto, using(crate::proofs::Settling::goes_by))]
-fn settle<S: Alter>(alloc: Global, away: AwayBook<S>, book: Book, begun: usize) -> (Hand<S>, Worked)
-    requires goes { GoesOnFrom begun (log_of away.book) book.log }
-    requires few { length (since begun book.log) < 2 ^ 32 }
-    ensures settled { SettlesWork result.1 begun (log_of away.book) book.log (session_log (sitting_of result.0)) }
+fn settle<B: BookCalls, S: Alter>(
+    alloc: Global,
+    away: AwayBook<B, S>,
+    book: B,
+    begun: usize,
+) -> (Hand<B, S>, Worked)
+    requires goes { GoesOnFrom begun (log_of B.log away.book) (B.log book) }
+    requires few { length (since begun (B.log book)) < 2 ^ 32 }
+    ensures settled { SettlesWork result.1 begun (log_of B.log away.book) (B.log book) (session_log B.log (sitting_of result.0)) }
     ensures failed { (sitting_of result.0).is_failed ≡ is_gone result.1 }
     ensures clean { WasClean (λ held. state S.Store held) away.journal (sitting_of result.0).journal }
 {
@@ -166,13 +170,13 @@ fn settle<S: Alter>(alloc: Global, away: AwayBook<S>, book: Book, begun: usize) 
 
 /// Appends the lines of a book that went on by what they say.
 #[tactic(auto, using(crate::proofs::Sessions::appended_clean))]
-fn append<S: Alter>(
+fn append<B: BookCalls, S: Alter>(
     alloc: Global,
-    away: AwayBook<S>,
-    book: Book,
+    away: AwayBook<B, S>,
+    book: B,
     lines: &[String],
-) -> Result<JournaledBook<S>, AwayBook<S>>
-    requires { GoesOnBy (map string_bytes lines.now) (log_of away.book) book.log }
+) -> Result<JournaledBook<B, S>, AwayBook<B, S>>
+    requires { GoesOnBy (map string_bytes lines.now) (log_of B.log away.book) (B.log book) }
     ensures ok { IfOk result (λ back. back.book ≡ Some book) }
     ensures err { IfErr result (λ left. left.book ≡ away.book) }
     ensures clean { WasClean (λ held. state S.Store held) away.journal (journal_of result) }

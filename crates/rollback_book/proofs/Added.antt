@@ -1,31 +1,23 @@
 -- A book whose places and room are made, and after a command that adds to it.
 use Rattle.std.proofs.Common.{◌≡◌, ◌≤◌, arith, ℕ, false, cond, List, [], ◌∷◌, ◌++◌, length, length-append, map, refl, ap, ap₂, sym, subst, ◌∙◌, Option, None, Some, Result, Ok, Err}
 use Rattle.std.specs.Prelude.{option_map, is_err, OnOk}
-use Rattle.std.proofs.lemmas.Option.{same_Some}
-use Rattle.json_tree.specs.Data.{depth}
-use Rattle.json_tree.specs.View.{data_of}
-use Rattle.json_tree.specs.declared.tree.Json.{Json}
 use Rattle.asl_fields.specs.Fields.{is_text}
-use Rattle.step_history.specs.Frame.{Frame}
 use Rattle.asl_tree.specs.Definition.{Definition}
 use Rattle.asl_tree.specs.Levels.{IsWellFormedThroughout}
-use Rattle.step_names.specs.Thread.{Thread}
-use Rattle.step_names.specs.declared.step.StepName.{StepName}
 use Rattle.saved_steps.specs.Effects as effects
 use Rattle.saved_steps.specs.Effects.{Effect}
 use Rattle.saved_steps.specs.Held.{world_view}
-use Rattle.saved_steps.specs.Made.{CanApply, IsMadeFor}
+use Rattle.saved_steps.specs.Made.{IsMadeFor}
 use Rattle.saved_steps.specs.Run.{after_effect, take_step}
 use Rattle.saved_steps.specs.Steps.{Step, started, moved, name_of, start_name}
 use Rattle.saved_steps.specs.World.{Setting, World}
 use Rattle.saved_steps.specs.declared.fact.Kind.TheVariants as kind
 use Rattle.saved_steps.specs.declared.made.Made.{Made as MadeStep}
-use Rattle.saved_steps.specs.declared.next.Next.TheVariants.{Begin}
-use Rattle.step_history.specs.History.{TakenStep, IsHistory, HasRoom, taken_in, history_items, history_records, history_world}
+use Rattle.step_history.specs.History.{TakenStep, IsHistory, taken_in, history_items, history_records, history_world}
 use Rattle.step_history.specs.declared.history.History.{History}
 use Rattle.step_history.proofs.Extended.{more_machines}
 use Rattle.step_history.proofs.Left.{as_many, facts_alike}
-use Rattle.book_log.specs.Answers.{start_answer, is_full_for_step, is_full_for_define}
+use Rattle.book_log.specs.Answers.{is_full_for_step, is_full_for_define}
 use Rattle.book_log.specs.Legal.{IsAccepted}
 use Rattle.book_log.specs.Log.{Log, appended, base_of, settled, step_on_hold, left_of, machine_of, past_of, setting_of, world_of}
 use Rattle.book_log.specs.declared.entry.Entry.{Entry}
@@ -36,10 +28,9 @@ use Rattle.book_log.proofs.HoldSaid.{held_next, hold_said}
 use Rattle.book_log.proofs.Holding.{left_is_after}
 use Rattle.book_log.proofs.Standing.{StandsAt, past_there, knowing, extended, base_kept, base_defined, stands_defined, stands_started, stands_moved, stands_held}
 use Rattle.rollback_book.specs.Book.{BookView, Places, BookInvariant, machine_place, placed_machine}
-use Rattle.rollback_book.specs.Holding.{AddsUnheld, HasHeldRoom, KeepsHold}
+use Rattle.rollback_book.specs.Holding.{AddsUnheld, KeepsHold}
 use Rattle.rollback_book.specs.Making.{CanEnter, CanEnterChange, HasLogRoom, IsStepFor}
 use Rattle.rollback_book.specs.declared.hold.Hold.{Hold}
-use Rattle.rollback_book.specs.Ready.{IsMadeIn, IsStartOf}
 use Rattle.rollback_book.specs.declared.making.Made.{Made}
 use Rattle.rollback_book.specs.declared.making.MadeChange.TheVariants as made
 use Rattle.rollback_book.proofs.Refusing.{start_not_full, step_not_full}
@@ -197,16 +188,6 @@ module _ (b : BookView) (tied : BookInvariant b) (capacity : ℕ) (log_room : Ha
   tied_held (Rollback n undone) hold a fits = absurd fits
   tied_held Settle hold a fits = absurd fits
 
--- a step that fits can be applied
-pub can_apply : (b : BookView) (entry : Entry) (m : MadeStep) → CanEnterChange b entry (made.Step m) → CanApply (history_world b.history) m × HasRoom b.history × HasHeldRoom b.held
-can_apply b (Define n d) m fits = absurd fits
-can_apply b (Start exec machine input) m fits = (fits.ready, fits.room, fits.held_room)
-can_apply b (Stepped name kind) m fits = (fits.ready, fits.room, fits.held_room)
-can_apply b (Undo n) m fits = absurd fits
-can_apply b (Rollback n undone) m fits = absurd fits
-can_apply b Settle m fits = absurd fits
-can_apply b (HoldEntry n count) m fits = absurd fits
-
 -- a machine that fits has its place
 pub has_place : (b : BookView) (entry : Entry) (name : List ℕ) (machine : Definition) → CanEnterChange b entry (made.Define name machine) → machine_place b.places name ≡ Some None
 has_place b (Define n d) name machine fits = ap (machine_place b.places) fits.0 ∙ fits.2
@@ -218,24 +199,6 @@ has_place b Settle name machine fits = absurd fits
 has_place b (HoldEntry n count) name machine fits = absurd fits
 
 -- ---- a start for which everything is made
-
-pub start_ready : (before after : BookView) (exec : Thread) (machine : List ℕ) (input : Json) (f : Frame) (name : StepName) (m : MadeStep) → after.log ≡ before.log
-    → IsStartOf before exec machine input f → name ≡ start_name exec.exec → IsMadeIn before after name (Begin f) m → HasLogRoom after → exec.path ≡ [] → depth (data_of input) ≤ 127
-    → CanEnter after (record { entry = Start exec machine input; change = made.Step m })
-start_ready before after exec machine input f name m same start named step room root shallow =
-    let d : effects.own_effect kind.Start (start_name exec.exec) f ≡ step.effect = ap (λ (n : StepName). effects.own_effect kind.Start n f) (sym named) ∙ same_Some _ _ step.is in
-    record {
-      is_accepted = (ap (λ (x : Log). start_answer x exec machine) same ∙ start.answer, root, shallow);
-      fits = record {
-        effect = step.effect;
-        is = ap (λ (x : Log). effects.effect_of (setting_of x) (world_of x) (started exec.exec machine input)) same ∙ start.does ∙ ap (λ (x : Effect). Some x) d;
-        made = step.made;
-        ready = step.ready;
-        room = step.room;
-        held_room = step.held_room;
-      };
-      room = room;
-    }
 
 -- a definition for which everything is made
 pub define_ready : (before after : BookView) (name : List ℕ) (machine : Definition) (r : Made) → r ≡ record { entry = Define name machine; change = made.Define name machine } → after.log ≡ before.log

@@ -14,7 +14,8 @@ use Rattle.book_log.specs.declared.refusal.Refusal.{Refusal}
 use Rattle.book_log.specs.declared.refusal.Refusal.TheVariants.{Full, Held, Memory}
 use Rattle.rollback_book.specs.Book.{BookView, BookInvariant, IsStepAt}
 use Rattle.rollback_book.specs.Holding.{IsHoldFor, IsHoldRefusal}
-use Rattle.rollback_book.specs.Making.{CanEnter, HasLogRoom, IsHoldAnswered, IsMadeHold, MakesHold}
+use Rattle.book_events.specs.Answered.{IsHoldAnswered}
+use Rattle.rollback_book.specs.Making.{CanEnter, HasLogRoom, IsMadeHold, MakesHold}
 use Rattle.book_events.specs.Planned.{OrMemory}
 use Rattle.rollback_book.specs.declared.making.Made.{Made}
 use Rattle.rollback_book.specs.declared.making.MadeChange.TheVariants as made

@@ -1,4 +1,3 @@
-pub mod Threads
 pub mod Searching
 pub mod Settled
 pub mod Tied

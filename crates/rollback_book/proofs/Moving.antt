@@ -13,12 +13,11 @@ use Rattle.step_names.specs.declared.step.StepName.{StepName}
 use Rattle.saved_steps.specs.Effects.{Effect, effect_of, frame_effect, if_numbered, move_effect, next_step, waits}
 use Rattle.saved_steps.specs.First.{IsFirstReady, NoneBeforeThread, free}
 use Rattle.saved_steps.specs.Held.{frames_of, paths_of, world_view}
-use Rattle.saved_steps.specs.Made.{CanMake, effect_of_next, fact_made}
+use Rattle.saved_steps.specs.Made.{CanMake, effect_of_next}
 use Rattle.saved_steps.specs.Steps.{moved}
 use Rattle.saved_steps.specs.World.{Setting, World}
 use Rattle.saved_steps.specs.declared.fact.Fact.{Fact}
 use Rattle.saved_steps.specs.declared.fact.Kind.{Kind}
-use Rattle.saved_steps.specs.declared.made.Made.{Made as MadeStep}
 use Rattle.saved_steps.specs.declared.next.Next.{Next}
 use Rattle.depends.proofs.Turned.{frame_move, frame_begins}
 use Rattle.step_history.specs.History.{TakenStep, IsHistory, history_world}
@@ -32,20 +31,15 @@ use Rattle.trace_theory.proofs.Records.{run_is, run_names}
 use Rattle.std.proofs.lemmas.List.{length-map}
 use Rattle.book_log.specs.Answers.{effect_answer, is_enabled as can_move, step_answer, thread_answer, moved_answer, needed_left, unless_needed, is_full_for_step}
 use Rattle.book_log.specs.Log.{Log, base_of, first_world, past_of, remaining, settled, step_on_hold, setting_of, world_of}
-use Rattle.book_log.specs.declared.entry.Entry.{Entry}
-use Rattle.book_log.specs.declared.entry.Entry.TheVariants.{Step as Stepped}
 use Rattle.book_log.specs.declared.moved.Moved.{Moved}
 use Rattle.book_log.specs.declared.refusal.Refusal.{Refusal}
 use Rattle.book_log.specs.declared.refusal.Refusal.TheVariants as refusal
 use Rattle.book_log.specs.declared.refusal.Refusal.TheVariants.{NoThread, NotReady, Full}
 use Rattle.book_log.proofs.HoldSaid.{needs_none}
 use Rattle.rollback_book.specs.Book.{BookView, BookInvariant, machine_place, placed_machine}
-use Rattle.rollback_book.specs.Making.{CanEnter, HasLogRoom}
 use Rattle.book_events.specs.Planned.{IsMoveRefusal, OrMemory}
-use Rattle.rollback_book.specs.Ready.{HasRoomUnlessHeld, IsHeldBack, IsMadeIn, IsNextOf, IsReadyTo, MayEnter}
+use Rattle.rollback_book.specs.Ready.{HasRoomUnlessHeld, IsNextOf, IsReadyTo, MayEnter}
 use Rattle.book_events.specs.FirstMove.{IsFirstToMove, moves_freely}
-use Rattle.rollback_book.specs.declared.making.Made.{Made}
-use Rattle.rollback_book.specs.declared.making.MadeChange.{MadeChange}
 use Rattle.rollback_book.specs.declared.making.MadeChange.TheVariants as made
 use Rattle.rollback_book.proofs.Refusing.{none_there}
 use Rattle.rollback_book.proofs.Tied.{stands, world_is, as_many_records}
@@ -202,66 +196,12 @@ Finds b t machine o = (s : Setting) (base : World) (ts : List TakenStep) → IsH
 
 -- ---- a step for which everything is made
 
--- the fact of a step that was made is that of what the thread's next step does
-made_fact : (before after : BookView) (t : Thread) (name : StepName) (next : Next) (m : MadeStep) (is : IsNextOf before t name next) → IsMadeIn before after name next m → is.effect.fact ≡ fact_made m
-made_fact before after t name next m is step = ap (λ (d : Effect). d.fact) (same_Some is.effect step.effect (sym is.same ∙ step.is)) ∙ sym step.made.fact
-
 -- a step that may be entered is answered to be taken
 enters : (log : Log) (d : Effect) (name : StepName) (f : Fact) → d.fact ≡ f → d.fact.name ≡ name → MayEnter log f → effect_answer log d ≡ Ok (record { name = name; kind = f.kind })
 enters log d name f same named may =
     let none : needed_left log d.fact ≡ None = ap (needed_left log) same ∙ may.0 in
     let free = may.1 in
     rw (none, free) (ap₂ (λ (n : StepName) (k : Kind). let x : Moved = record { name = n; kind = k } in Ok x) named (ap (λ (x : Fact). x.kind) same))
-
-pub step_ready : (before after : BookView) (t : Thread) (name : StepName) (next : Next) (m : MadeStep) (r : Made) → after.log ≡ before.log → IsNextOf before t name next → IsMadeIn before after name next m → MayEnter before.log (fact_made m)
-    → HasLogRoom after → r.entry ≡ Stepped name (fact_made m).kind → r.change ≡ made.Step m → CanEnter after r
-step_ready before after t name next m r same is step may room entry change =
-    let d : is.effect ≡ step.effect = same_Some is.effect step.effect (sym is.same ∙ step.is) in
-    let whole : CanEnter after (record { entry = Stepped name (fact_made m).kind; change = made.Step m }) = record {
-      is_accepted = ap₂ (λ (x : Log) (u : Thread). step_answer x u) same is.thread ∙ is.answer ∙ enters before.log is.effect name (fact_made m) (made_fact before after t name next m is step) is.named may;
-      fits = record {
-        effect = step.effect;
-        is = ap (λ (x : Log). effect_of (setting_of x) (world_of x) (moved name)) same ∙ is.does ∙ ap (λ (x : Effect). Some x) d;
-        made = step.made;
-        ready = step.ready;
-        room = step.room;
-        held_room = step.held_room;
-      };
-      room = room;
-    } in
-    subst (λ (x : Made). CanEnter after x) (ap₂ (λ (e : Entry) (c : MadeChange). let x : Made = record { entry = e; change = c } in x) (sym entry) (sym change)) whole
-
--- and it is answered so
-pub step_told : (log : Log) (before after : BookView) (t : Thread) (name : StepName) (next : Next) (m : MadeStep) → before.log ≡ log → IsNextOf before t name next → IsMadeIn before after name next m → MayEnter before.log (fact_made m)
-    → step_answer log t ≡ Ok (record { name = name; kind = (fact_made m).kind })
-step_told log before after t name next m same is step may =
-    ap (λ (x : Log). step_answer x t) (sym same) ∙ is.answer ∙ enters before.log is.effect name (fact_made m) (made_fact before after t name next m is step) is.named may
-
--- or it is held back
-held_back : (log : Log) (t : Thread) (d : Effect) (e : Refusal) → step_answer log t ≡ effect_answer log d → can_move log t ≡ true → IsHeldBack log d.fact e → IsMoveRefusal log t e
-held_back log t d (refusal.Held name) answer moves h =
-    let told : step_answer log t ≡ Err (refusal.Held name) = answer ∙ ap (λ (o : Option Fact). unless_needed o (cond (is_full_for_step log) (Err refusal.Full) (Ok (record { name = d.fact.name; kind = d.fact.kind })))) h.1 ∙ ap (λ (n : StepName). Err (refusal.Held n)) (sym h.2) in
-    inl (subst (λ (r : Result Moved Refusal). OrMemory r (refusal.Held name)) (sym told) refl)
-held_back log t d refusal.Full answer moves h =
-    let none = h.0 in
-    let full = h.1 in
-    let told : step_answer log t ≡ Err refusal.Full = answer ∙ rw (none, full) refl in
-    inl (subst (λ (r : Result Moved Refusal). OrMemory r refusal.Full) (sym told) refl)
-held_back log t d refusal.Memory answer moves h = inr (refl, (h, moves))
-held_back log t d refusal.NoMachine answer moves h = absurd h
-held_back log t d refusal.MachineTaken answer moves h = absurd h
-held_back log t d (refusal.BadMachine fault) answer moves h = absurd h
-held_back log t d refusal.ExecTaken answer moves h = absurd h
-held_back log t d refusal.NoThread answer moves h = absurd h
-held_back log t d (refusal.NotReady readiness) answer moves h = absurd h
-held_back log t d refusal.NoStep answer moves h = absurd h
-held_back log t d (refusal.HasDependents step) answer moves h = absurd h
-held_back log t d (refusal.Stale entries) answer moves h = absurd h
-held_back log t d refusal.Settled answer moves h = absurd h
-
-pub step_held_back : (before after : BookView) (t : Thread) (name : StepName) (next : Next) (m : MadeStep) (e : Refusal) → IsNextOf before t name next → IsMadeIn before after name next m → IsHeldBack before.log (fact_made m) e → IsMoveRefusal before.log t e
-step_held_back before after t name next m e is step h =
-    held_back before.log t is.effect e is.answer is.moves (subst (λ (f : Fact). IsHeldBack before.log f e) (sym (made_fact before after t name next m is step)) h)
 
 -- memory may be wanting for a move for which there is room, or while something is held
 lacks_memory : (log : Log) (t : Thread) (d : Effect) → step_answer log t ≡ effect_answer log d → can_move log t ≡ true → HasRoomUnlessHeld log → IsMoveRefusal log t refusal.Memory

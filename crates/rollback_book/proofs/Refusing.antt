@@ -1,16 +1,10 @@
 -- When commands that add to a book are refused.
-use Rattle.std.proofs.Common.{◌≡◌, ◌⊎◌, Bool, true, false, cond, List, [], refl, ap, sym, subst, ◌∙◌, Option, None, Some, Result, Ok, Err, inl, inr}
-use Rattle.std.specs.Prelude.{ℕ, is_some, IsTrue}
-use Rattle.serde_json.specs.Data.{Data}
+use Rattle.std.proofs.Common.{◌≡◌, Bool, true, false, cond, List, [], refl, ap, sym, ◌∙◌, Option, None, Some, Result, Ok, Err}
+use Rattle.std.specs.Prelude.{ℕ, is_some}
 use Rattle.json_tree.specs.declared.tree.Json.{Json}
-use Rattle.asl_fields.specs.Refusal.{RefusesForFault}
-use Rattle.asl_fields.specs.declared.fault.MachineFault.{MachineFault}
-use Rattle.asl_fields.specs.declared.fault.MachineFault.TheVariants.{Missing, UnknownField, Unsupported, BadField, NoTarget, NextAndEnd, StatesAllPlace, TooDeep, Memory as NoMemory}
 use Rattle.step_history.specs.Turn.{first_frame}
 use Rattle.step_history.specs.Frame.{Frame}
 use Rattle.asl_tree.specs.Definition.{Definition}
-use Rattle.asl_machine.specs.Faults.{DefinitionFault}
-use Rattle.asl_machine.specs.Profile.{Defines, DefinesNone}
 use Rattle.branch_tree.specs.FlatMap.{is_parked}
 use Rattle.branch_tree.specs.Ready.{readiness_at}
 use Rattle.branch_tree.specs.declared.readiness.Readiness.{Readiness}
@@ -23,11 +17,11 @@ use Rattle.saved_steps.specs.Steps.{started, start_name}
 use Rattle.saved_steps.specs.World.{Setting, World}
 use Rattle.saved_steps.specs.declared.fact.Fact.{Fact}
 use Rattle.saved_steps.specs.declared.fact.Kind.TheVariants as kind
-use Rattle.book_log.specs.Answers.{IsReadRefusal, IsDefineRefusal, is_full_for_step, is_full_for_define, start_answer, step_answer, thread_answer, moved_answer, needed_left, unless_needed}
+use Rattle.book_log.specs.Answers.{is_full_for_step, start_answer, step_answer, thread_answer, moved_answer, needed_left, unless_needed}
 use Rattle.book_log.specs.Log.{Log, machine_of, setting_of, world_of}
 use Rattle.book_log.specs.declared.moved.Moved.{Moved}
 use Rattle.book_log.specs.declared.refusal.Refusal.{Refusal}
-use Rattle.book_log.specs.declared.refusal.Refusal.TheVariants.{NoMachine, MachineTaken, BadMachine, ExecTaken, NoThread, NotReady, NoStep, HasDependents, Stale, Full, Memory, Settled, Held}
+use Rattle.book_log.specs.declared.refusal.Refusal.TheVariants.{NoMachine, ExecTaken, Full}
 use Rattle.rollback_book.specs.Book.{BookView, BookInvariant}
 use Rattle.rollback_book.specs.Ready.{IsStartOf}
 use Rattle.rollback_book.proofs.Tied.{world_is}
@@ -38,38 +32,6 @@ none_there None h = refl
 none_there (Some x) h = cc
 
 -- ---- definitions
-
-pub read_refused : (d : Data) (fault : MachineFault) → (fault ≡ NoMemory → ⊥) → RefusesForFault fault (DefinesNone d) → RefusesForFault fault (DefinitionFault d fault) → IsReadRefusal d (BadMachine fault)
-read_refused d (Missing field) n h k = (h, k)
-read_refused d (UnknownField field) n h k = (h, k)
-read_refused d (Unsupported field) n h k = (h, k)
-read_refused d (BadField field) n h k = (h, k)
-read_refused d (NoTarget state) n h k = (h, k)
-read_refused d (NextAndEnd state) n h k = (h, k)
-read_refused d StatesAllPlace n h k = (h, k)
-read_refused d TooDeep n h k = (h, k)
-read_refused d NoMemory n h k = absurd (n refl)
-
-pub read_is_define : (log : Log) (name : List ℕ) (d : Data) (e : Refusal) → machine_of log name ≡ None → IsReadRefusal d e → IsDefineRefusal log name d e
-read_is_define log name d (BadMachine fault) free h = (free, h)
-read_is_define log name d Memory free h = free
-read_is_define log name d MachineTaken free h = absurd h
-read_is_define log name d Full free h = absurd h
-read_is_define log name d NoMachine free h = absurd h
-read_is_define log name d ExecTaken free h = absurd h
-read_is_define log name d NoThread free h = absurd h
-read_is_define log name d (NotReady readiness) free h = absurd h
-read_is_define log name d NoStep free h = absurd h
-read_is_define log name d (HasDependents step) free h = absurd h
-read_is_define log name d (Stale entries) free h = absurd h
-read_is_define log name d Settled free h = absurd h
-read_is_define log name d (Held step) free h = absurd h
-
--- a machine that was read is refused for want of room or memory alone
-pub room_is_define : (log : Log) (name : List ℕ) (d : Data) (machine : Definition) (e : Refusal) → machine_of log name ≡ None → Defines d machine
-    → ((e ≡ Full) × IsTrue (is_full_for_define log)) ⊎ (e ≡ Memory) → IsDefineRefusal log name d e
-room_is_define log name d machine e free defines (inl h) = subst (λ (x : Refusal). IsDefineRefusal log name d x) (sym h.0) (free, (machine, defines), h.1)
-room_is_define log name d machine e free defines (inr h) = subst (λ (x : Refusal). IsDefineRefusal log name d x) (sym h) free
 
 -- ---- starts
 

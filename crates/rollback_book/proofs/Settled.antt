@@ -1,6 +1,6 @@
 -- What a book holds of the steps that were settled says of its log why a step is absent; and a book after a settlement.
-use Rattle.std.proofs.Common.{◌≡◌, ◌≤◌, arith, ℕ, Bool, true, false, cond, List, [], ◌∷◌, ◌++◌, length, length-append, map, refl, ap, ap₂, sym, subst, ◌∙◌, Err, inl, inr, None, Some, Result, Ok}
-use Rattle.std.specs.Prelude.{◌||◌, ◌⊎◌}
+use Rattle.std.proofs.Common.{◌≡◌, ◌≤◌, arith, ℕ, Bool, true, false, cond, List, [], ◌∷◌, ◌++◌, length, length-append, map, refl, ap, ap₂, sym, subst, ◌∙◌, Err, None, Some}
+use Rattle.std.specs.Prelude.{◌||◌}
 use Rattle.std.specs.List.{list_any}
 use Rattle.std.specs.Ordering.{eq_by_cmp}
 use Rattle.std.proofs.lemmas.List.{map-append}
@@ -15,13 +15,12 @@ use Rattle.saved_steps.specs.World.{Setting, World, is_same_step}
 use Rattle.saved_steps.specs.declared.record.StepRecord.{StepRecord}
 use Rattle.step_history.specs.History.{TakenStep, IsHistory, history_records, history_world}
 use Rattle.step_history.specs.declared.history.History.{History}
-use Rattle.book_log.specs.Answers.{Gives, GivesOr, absent, is_full_for_define, is_settled, settle_answer}
+use Rattle.book_log.specs.Answers.{absent, is_full_for_define, is_settled, settle_answer}
 use Rattle.book_log.specs.Legal.{IsAccepted}
 use Rattle.book_log.specs.Log.{Log, appended, base_of, settled, remaining, step_on_hold, setting_of, past_of}
 use Rattle.book_log.specs.declared.entry.Entry.{Entry}
 use Rattle.book_log.specs.declared.entry.Entry.TheVariants.{Define, Start, Step as Stepped, Undo, Rollback, Settle, Hold as HoldEntry}
-use Rattle.book_log.specs.declared.refusal.Refusal.{Refusal}
-use Rattle.book_log.specs.declared.refusal.Refusal.TheVariants.{NoStep, Settled, Full, Held, Memory}
+use Rattle.book_log.specs.declared.refusal.Refusal.TheVariants.{NoStep, Settled, Full, Held}
 use Rattle.book_log.proofs.Counts.{room_for_define}
 use Rattle.book_log.proofs.LegalRuns.{accepted_is_legal}
 use Rattle.book_log.proofs.HoldSaid.{held_next}
@@ -29,7 +28,6 @@ use Rattle.book_log.proofs.Settling.{room_settles, settle_free, settle_room}
 use Rattle.book_log.proofs.Standing.{base_settled, settled_next, stands_settled, step_same, step_itself}
 use Rattle.rollback_book.specs.Book.{BookView, BookInvariant}
 use Rattle.rollback_book.specs.Making.{CanEnter, CanEnterChange, HasLogRoom}
-use Rattle.book_events.specs.Planned.{OrMemory}
 use Rattle.rollback_book.specs.declared.making.MadeChange.TheVariants as made
 use Rattle.rollback_book.specs.Settling.{absent_in}
 use Rattle.rollback_book.specs.Holding.{IsHoldOf}
@@ -55,20 +53,6 @@ module _ (b : BookView) (tied : BookInvariant b) where
   pub absent_is : (name : StepName) → absent_in b.settled.items name ≡ absent b.log name
   unfolding absent_in is_settled
   absent_is name = ap (λ (x : Bool). cond x Settled NoStep) (ap (is_name_among name) tied.names ∙ among_is (settled b.log) name)
-
-  -- the same names, with more room
-  pub tied_names : (names : SettledNamesView) → names.items ≡ b.settled.items → BookInvariant (record { log = b.log; history = b.history; places = b.places; capacity = b.capacity; settled = names; held = b.held })
-  tied_names names same = record {
-    legal = tied.legal;
-    history = tied.history;
-    run = tied.run;
-    machines = tied.machines;
-    names = same ∙ tied.names;
-    held = tied.held;
-    room = tied.room;
-    few = tied.few;
-    bounded = tied.bounded;
-  }
 
   -- ---- a settlement
 
@@ -131,29 +115,4 @@ pub settle_ready : (before after : BookView) → after.log ≡ before.log → st
     → CanEnter after (record { entry = Settle; change = made.Settle })
 settle_ready before after same unheld free names room = record { is_accepted = ap settle_answer same ∙ room_settles before.log unheld free; fits = names; room = room }
 
--- an answer that is given
-pub settle_given : (answer r : Result (Unit {0}) Refusal) (lacks : Type 0) → answer ≡ r → GivesOr lacks r answer
-settle_given (Ok x) r lacks h = inl (inl (sym h))
-settle_given (Err e) r lacks h = inl (sym h)
-
-pub refused_given : {T : Type 0} (answer : Result T Refusal) (e : Refusal) (lacks : Type 0) → OrMemory answer e ⊎ ((e ≡ Memory) × lacks) → GivesOr lacks (Err e) answer
-refused_given (Ok x) e lacks (inl h) = inl (inr (ap Err h))
-refused_given (Err f) e lacks (inl h) = inl (ap Err h)
-refused_given answer e lacks (inr h) = inr (ap Err h.0, h.1)
-
 -- ---- what is accepted is refused for memory alone
-
-pub accepted_memory : {T : Type 0} (answer : Result T Refusal) (x : T) (e : Refusal) → answer ≡ Ok x → Gives (Err e) answer → e ≡ Memory
-accepted_memory (Ok y) x e h (inl k) = cc
-accepted_memory (Ok y) x e h (inr k) = cc
-accepted_memory (Err f) x e h k = cc
-
-pub accepted_given : {T : Type 0} (answer : Result T Refusal) (x y : T) → answer ≡ Ok x → Gives (Ok y) answer → y ≡ x
-accepted_given (Ok z) x y h (inl k) = cc
-accepted_given (Ok z) x y h (inr k) = cc
-accepted_given (Err f) x y h k = cc
-
--- also where want of memory may stand for any answer
-pub accepted_lacks : {T : Type 0} (lacks : Type 0) (answer : Result T Refusal) (x : T) (e : Refusal) → answer ≡ Ok x → GivesOr lacks (Err e) answer → e ≡ Memory
-accepted_lacks lacks answer x e h (inl k) = accepted_memory answer x e h k
-accepted_lacks lacks answer x e h (inr k) = cc

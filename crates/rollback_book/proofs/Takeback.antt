@@ -4,7 +4,8 @@ use Rattle.step_names.specs.declared.step.StepName.{StepName}
 use Rattle.book_log.specs.Log.{Log}
 use Rattle.book_log.specs.declared.entry.Entry.TheVariants.{Undo, Rollback}
 use Rattle.rollback_book.specs.Book.{BookView, IsMaximalPlace}
-use Rattle.rollback_book.specs.Making.{CanEnter, IsMadeRollback, IsRollbackAnswered}
+use Rattle.book_events.specs.Answered.{IsRollbackAnswered}
+use Rattle.rollback_book.specs.Making.{CanEnter, IsMadeRollback}
 use Rattle.rollback_book.specs.declared.making.Made.{Made}
 use Rattle.rollback_book.specs.declared.making.MadeChange.TheVariants as made
 

@@ -2,7 +2,8 @@
 ghost use Rattle.std.specs.Prelude.{◌≡◌, true, false, IfOk, IfErr, IsSome, MatchResult};
 ghost use Rattle.book_events.specs.Commits.{AnswersCommit, Commits, IsFresh, IsSource, IsStaleness, is_phase_ready, tells_hold, turn_refused};
 ghost use Rattle.book_log.specs.Log.{step_on_hold};
-ghost use Rattle.rollback_book.specs.Making.{CanEnter, IsStepAnswered, made_entry};
+ghost use Rattle.book_events.specs.Answered.{IsStepAnswered};
+ghost use Rattle.rollback_book.specs.Making.{CanEnter, made_entry};
 
 use crate::book::Book;
 use crate::hold::is_full_unheld;

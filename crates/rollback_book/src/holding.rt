@@ -7,7 +7,8 @@ ghost use Rattle.book_log.specs.Log.{appended, step_on_hold, left_of};
 ghost use Rattle.rollback_book.specs.Book.{IsStepAt};
 ghost use Rattle.book_events.specs.Calls.{Holds, IsLatestLeft};
 ghost use Rattle.rollback_book.specs.Holding.{IsHoldRefusal};
-ghost use Rattle.rollback_book.specs.Making.{CanEnter, CanEnterChange, HasLogRoom, HoldsSoMany, IsEntryOfHold, IsHoldAnswered, IsMadeHold, MakesHold, made_entry};
+ghost use Rattle.book_events.specs.Answered.{HoldsSoMany, IsEntryOfHold, IsHoldAnswered};
+ghost use Rattle.rollback_book.specs.Making.{CanEnter, CanEnterChange, HasLogRoom, IsMadeHold, MakesHold, made_entry};
 ghost use Rattle.rollback_book.specs.declared.making.MadeChange.TheVariants as made;
 ghost use Rattle.step_history.specs.History.{history_records};
 

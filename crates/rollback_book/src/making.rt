@@ -6,36 +6,8 @@ use asl_machine::{Machine, SharedMachine};
 use book_log::Entry;
 use depends::Plan;
 use json_tree::{Json, Text};
-use serde_json::Value;
 use std::alloc::{AllocError, Global};
 use step_names::{StepName, ThreadName};
-
-/// A command that adds an entry to a book.
-#[derive(Drop)]
-pub enum Change<'a> {
-    Define {
-        name: &'a Text,
-        definition: &'a Value,
-    },
-    Start {
-        exec: &'a ThreadName,
-        machine: &'a Text,
-        input: Json,
-    },
-    Step {
-        thread: &'a ThreadName,
-    },
-    Undo {
-        step: &'a StepName,
-    },
-    Rollback {
-        step: &'a StepName,
-    },
-    Settle,
-    Hold {
-        step: &'a StepName,
-    },
-}
 
 /// What a command does to a book beside its entry.
 #[derive(Drop)]

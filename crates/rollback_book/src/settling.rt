@@ -6,7 +6,8 @@ ghost use Rattle.step_names.specs.declared.step.StepName.{StepName};
 ghost use Rattle.book_log.specs.Legal.{IsAccepted};
 ghost use Rattle.book_log.specs.Log.{appended};
 ghost use Rattle.book_events.specs.Calls.{Settles};
-ghost use Rattle.rollback_book.specs.Making.{IsSettleAnswered, made_entry, CanEnter, CanEnterChange, HasLogRoom};
+ghost use Rattle.book_events.specs.Answered.{IsSettleAnswered};
+ghost use Rattle.rollback_book.specs.Making.{made_entry, CanEnter, CanEnterChange, HasLogRoom};
 ghost use Rattle.step_history.specs.History.{history_records};
 
 use crate::book::Book;

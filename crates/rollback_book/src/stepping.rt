@@ -11,7 +11,8 @@ ghost use Rattle.book_log.specs.Answers.{step_answer};
 ghost use Rattle.book_log.specs.Log.{appended, step_on_hold, world_of};
 ghost use Rattle.book_events.specs.Calls.{FindsFirst, Steps};
 ghost use Rattle.book_events.specs.Commits.{tells_hold};
-ghost use Rattle.rollback_book.specs.Making.{CanEnter, IsEntryOfStep, IsStepAnswered, made_entry};
+ghost use Rattle.book_events.specs.Answered.{IsEntryOfStep, IsStepAnswered};
+ghost use Rattle.rollback_book.specs.Making.{CanEnter, made_entry};
 ghost use Rattle.book_events.specs.Planned.{IsMoveRefusal};
 ghost use Rattle.rollback_book.specs.Ready.{HasRoomUnlessHeld, IsHeldBack, IsNextOf, IsReadyTo, MayEnter};
 

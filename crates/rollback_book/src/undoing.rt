@@ -3,7 +3,8 @@ ghost use Rattle.std.specs.Prelude.{◌≡◌, ◌⊎◌, true, Err, IfOk, Match
 ghost use Rattle.book_log.specs.Answers.{remains, undo_answer};
 ghost use Rattle.book_log.specs.Log.{appended};
 ghost use Rattle.rollback_book.specs.Book.{IsMaximalPlace, IsStepAt};
-ghost use Rattle.rollback_book.specs.Making.{ArePlacesOf, CanEnter, CanEnterChange, IsMadeRollback, IsRollbackAnswered, IsUndoAnswered, made_entry};
+ghost use Rattle.book_events.specs.Answered.{IsRollbackAnswered, IsUndoAnswered};
+ghost use Rattle.rollback_book.specs.Making.{ArePlacesOf, CanEnter, CanEnterChange, IsMadeRollback, made_entry};
 ghost use Rattle.rollback_book.specs.declared.making.MadeChange.TheVariants as made;
 
 use crate::book::Book;

@@ -15,7 +15,7 @@ use crate::fault::{ENDED, ExitFault, FAILED, USAGE, end};
 use crate::mode::{Mode, ModeRefusal};
 use crate::writing::write_number;
 use book_journal::Journal;
-use operator_line::books::Book;
+use operator_line::calls::BookCalls;
 use operator_line::{ServeFault, Session, flush, serve, write_all};
 use sqlite::{Alter, Connection, Error};
 use std::alloc::Global;
@@ -29,7 +29,7 @@ const USAGE_TEXT: &[u8] = b"usage: rollback [--journal FILE | --check FILE]\n";
 ///
 /// The connection is handed out again, however the run ended, so that it can be said what the journal holds then. If [`has_to_close`] says
 /// so, it has to be closed, and [`finish`] is given what that answers.
-pub fn run<T: Threads + Wait + Sync, S: Alter + Drop, R: Read, W: Write>(
+pub fn run<T: Threads + Wait + Sync, B: BookCalls + Send, S: Alter + Drop, R: Read, W: Write>(
     rt: &T,
     alloc: Global,
     mode: &Mode,
@@ -39,7 +39,7 @@ pub fn run<T: Threads + Wait + Sync, S: Alter + Drop, R: Read, W: Write>(
 ) -> (Result<(), ExitFault>, Option<Connection<S>>)
     ensures { HasOutcome (λ held. state S.Store held) mode.now connection result.0 result.1 (R.remaining reader.old) (R.remaining reader.new) (W.contents writer.old) (W.contents writer.new) }
 {
-    match open(alloc, connection) {
+    match open::<B, S>(alloc, connection) {
         Ok(session) => {
             let (outcome, left) = run_owned(rt, alloc, mode, session, reader, writer);
             (outcome, Some(left))
@@ -104,12 +104,12 @@ fn show<W: Write>(writer: &mut W, text: &[u8]) -> Result<(), ServeFault>
 
 // ---- the book
 
-fn open<S: Alter + Drop>(
+fn open<B: BookCalls, S: Alter + Drop>(
     alloc: Global,
     connection: Result<Connection<S>, Error>,
-) -> Result<Session<S>, (ExitFault, Option<Connection<S>>)>
+) -> Result<Session<B, S>, (ExitFault, Option<Connection<S>>)>
     ensures here { IfOk result (λ s. s.is_failed ≡ false) }
-    ensures ok { IfOk result (λ s. OpensJournal (λ held. state S.Store held) connection s.journal (session_log s)) }
+    ensures ok { IfOk result (λ s. OpensJournal (λ held. state S.Store held) connection s.journal (session_log B.log s)) }
     ensures err { IfErr result (λ e. OpensNoJournal (λ held. state S.Store held) connection e.1 e.0) }
 {
     match connection {
@@ -122,12 +122,12 @@ fn open<S: Alter + Drop>(
 }
 
 /// The session of a connection's journal, or the connection as it is left if there is none.
-fn open_connected<S: Alter + Drop>(
+fn open_connected<B: BookCalls, S: Alter + Drop>(
     alloc: Global,
     connection: Connection<S>,
-) -> Result<Session<S>, (ExitFault, Connection<S>)>
+) -> Result<Session<B, S>, (ExitFault, Connection<S>)>
     ensures here { IfOk result (λ s. s.is_failed ≡ false) }
-    ensures ok { IfOk result (λ s. GivesJournal (λ held. state S.Store held) connection s.journal (session_log s)) }
+    ensures ok { IfOk result (λ s. GivesJournal (λ held. state S.Store held) connection s.journal (session_log B.log s)) }
     ensures err { IfErr result (λ e. GivesNoJournal (λ held. state S.Store held) connection e.1 e.0) }
 {
     match Journal::open(connection) {
@@ -142,16 +142,16 @@ fn open_connected<S: Alter + Drop>(
 // ---- what is done with the book
 
 /// Runs a session, and lets it go.
-fn run_owned<T: Threads + Wait + Sync, S: Alter + Drop, R: Read, W: Write>(
+fn run_owned<T: Threads + Wait + Sync, B: BookCalls + Send, S: Alter + Drop, R: Read, W: Write>(
     rt: &T,
     alloc: Global,
     mode: &Mode,
-    session: Session<S>,
+    session: Session<B, S>,
     reader: &mut R,
     writer: &mut W,
 ) -> (Result<(), ExitFault>, Connection<S>)
     requires here { session.is_failed ≡ false }
-    ensures { IsProgramRun (λ held. state S.Store held) mode.now result.0 (session_log session) session.journal result.1 (R.remaining reader.old) (R.remaining reader.new) (W.contents writer.old) (W.contents writer.new) }
+    ensures { IsProgramRun (λ held. state S.Store held) mode.now result.0 (session_log B.log session) session.journal result.1 (R.remaining reader.old) (R.remaining reader.new) (W.contents writer.old) (W.contents writer.new) }
 {
     let mut session = session;
     let outcome = run_session(rt, alloc, mode, &mut session, reader, writer);
@@ -159,9 +159,9 @@ fn run_owned<T: Threads + Wait + Sync, S: Alter + Drop, R: Read, W: Write>(
 }
 
 /// The connection of a session, with its journal as it is.
-fn let_go<S: Alter + Drop>(session: Session<S>) -> Connection<S>
+fn let_go<B: BookCalls, S: Alter + Drop>(session: Session<B, S>) -> Connection<S>
     ensures same { result ≡ session.journal }
-    ensures holds { IsJournalOf (state S.Store result) (session_log session) }
+    ensures holds { IsJournalOf (state S.Store result) (session_log B.log session) }
 {
     session.into_journal().into_connection()
 }
@@ -172,15 +172,15 @@ fn let_go<S: Alter + Drop>(session: Session<S>) -> Connection<S>
 /// # Errors
 ///
 /// As `serve`; `Output` where the sizes can't be written or flushed; `Store` of a session that has failed, before anything is done.
-pub fn run_session<T: Threads + Wait + Sync, S: Alter, R: Read, W: Write>(
+pub fn run_session<T: Threads + Wait + Sync, B: BookCalls + Send, S: Alter, R: Read, W: Write>(
     rt: &T,
     alloc: Global,
     mode: &Mode,
-    session: &mut Session<S>,
+    session: &mut Session<B, S>,
     reader: &mut R,
     writer: &mut W,
 ) -> Result<(), ExitFault>
-    ensures done { session.old.is_failed ≡ false → IsDone mode.now result (session_log session.old) (session_log session.new)
+    ensures done { session.old.is_failed ≡ false → IsDone mode.now result (session_log B.log session.old) (session_log B.log session.new)
         (R.remaining reader.old) (R.remaining reader.new) (W.contents writer.old) (W.contents writer.new) }
     ensures check { is_check mode.now ≡ true → session.new ≡ session.old }
     ensures failed { session.old.is_failed ≡ true → (result ≡ Err ExitFault.Store) × (session.new ≡ session.old)
@@ -197,15 +197,15 @@ pub fn run_session<T: Threads + Wait + Sync, S: Alter, R: Read, W: Write>(
     }
 }
 
-fn serve_book<T: Threads + Wait + Sync, S: Alter, R: Read, W: Write>(
+fn serve_book<T: Threads + Wait + Sync, B: BookCalls + Send, S: Alter, R: Read, W: Write>(
     rt: &T,
     alloc: Global,
-    session: &mut Session<S>,
+    session: &mut Session<B, S>,
     reader: &mut R,
     writer: &mut W,
 ) -> Result<(), ExitFault>
     requires here { session.old.is_failed ≡ false }
-    ensures served { IsServed result (session_log session.old) (session_log session.new) (R.remaining reader.old) (W.contents writer.old) (W.contents writer.new) }
+    ensures served { IsServed result (session_log B.log session.old) (session_log B.log session.new) (R.remaining reader.old) (W.contents writer.old) (W.contents writer.new) }
     ensures handed { IfSome (R.remaining reader.old) (λ input. Hands (KeepsOne (λ held. state S.Store held)) result (lines_of input) session.old.journal session.new.journal) }
 {
     match serve(rt, alloc, reader, writer, session) {
@@ -215,8 +215,8 @@ fn serve_book<T: Threads + Wait + Sync, S: Alter, R: Read, W: Write>(
 }
 
 /// How many lines the journal of a book has, and how many steps remain.
-fn sizes(book: Option<&Book>) -> (usize, usize)
-    ensures { result ≡ sizes_of (option_map (λ b. b.now.log) book.entry) }
+fn sizes<B: BookCalls>(book: Option<&B>) -> (usize, usize)
+    ensures { result ≡ sizes_of (option_map (λ b. B.log b.now) book.entry) }
 {
     match book {
         Some(book) => {

@@ -2,15 +2,17 @@
 use crate::files::{FOREVER, Stopping, appends, connected, holds, new_journal};
 use book_journal::{Journal, JournalFault};
 use operator_line::Session;
+use operator_line::calls::BookCalls;
 use operator_line::journaled::OpenFault;
 use std::alloc::Global;
 use std::test::Fail;
+use threaded_book::Book;
 
 /// Opens with no promise, so that none need be read at each call.
-fn opened(
+fn opened<B: BookCalls>(
     alloc: Global,
     journal: Journal<Stopping>,
-) -> Result<Session<Stopping>, (OpenFault, Journal<Stopping>)> {
+) -> Result<Session<B, Stopping>, (OpenFault, Journal<Stopping>)> {
     Session::open(alloc, journal)
 }
 
@@ -19,12 +21,12 @@ fn has_lines(alloc: Global, mut journal: Journal<Stopping>, lines: &[&str]) -> b
 }
 
 /// Why a journal is not opened, and whether it comes back with its lines.
-fn refusal_of(
+fn refusal_of<B: BookCalls>(
     alloc: Global,
     journal: Journal<Stopping>,
     lines: &[&str],
 ) -> Option<(OpenFault, bool)> {
-    match opened(alloc, journal) {
+    match opened::<B>(alloc, journal) {
         Ok(session) => {
             drop(session);
             None
@@ -33,22 +35,22 @@ fn refusal_of(
     }
 }
 
-fn refusal_with(
+fn refusal_with<B: BookCalls>(
     alloc: Global,
     mut journal: Journal<Stopping>,
     lines: &[&str],
 ) -> Option<(OpenFault, bool)> {
     if appends(&mut journal, lines) {
-        refusal_of(alloc, journal, lines)
+        refusal_of::<B>(alloc, journal, lines)
     } else {
         drop(journal);
         None
     }
 }
 
-fn refusal(alloc: Global, lines: &[&str]) -> Option<(OpenFault, bool)> {
+fn refusal<B: BookCalls>(alloc: Global, lines: &[&str]) -> Option<(OpenFault, bool)> {
     match new_journal(alloc, FOREVER) {
-        Some(journal) => refusal_with(alloc, journal, lines),
+        Some(journal) => refusal_with::<B>(alloc, journal, lines),
         None => None,
     }
 }
@@ -68,7 +70,7 @@ const DAMAGED: &[(&[&str], usize)] = &[
 #[test]
 fn damaged_journals_are_handed_back(rt: HostRuntime) {
     for &(lines, place) in DAMAGED {
-        let refusal = refusal(rt.alloc(), lines);
+        let refusal = refusal::<Book>(rt.alloc(), lines);
         assert!(rt;
             refusal == Some((OpenFault::Damaged(place), true)),
             "{place}"
@@ -92,7 +94,7 @@ fn journal_by(alloc: Global, sql: &str) -> Option<Journal<Stopping>> {
 #[test]
 fn a_journal_with_a_gap_is_handed_back(rt: HostRuntime) {
     let told = match journal_by(rt.alloc(), GAP) {
-        Some(journal) => refusal_of(rt.alloc(), journal, &[]),
+        Some(journal) => refusal_of::<Book>(rt.alloc(), journal, &[]),
         None => None,
     };
     assert!(rt; told == Some((OpenFault::Journal(JournalFault::Gap(1)), false)));
@@ -116,7 +118,10 @@ const FILLING: &[&str] = &[
 ];
 
 /// A journal that comes back from an opening that is out of memory is opened then.
-fn opened_at_last(alloc: Global, journal: Journal<Stopping>) -> Option<Session<Stopping>> {
+fn opened_at_last<B: BookCalls>(
+    alloc: Global,
+    journal: Journal<Stopping>,
+) -> Option<Session<B, Stopping>> {
     match opened(alloc, journal) {
         Ok(session) => Some(session),
         Err((OpenFault::Memory, journal)) => opened(alloc, journal).ok(),
@@ -124,7 +129,7 @@ fn opened_at_last(alloc: Global, journal: Journal<Stopping>) -> Option<Session<S
     }
 }
 
-fn has_steps(session: &Session<Stopping>) -> bool {
+fn has_steps<B: BookCalls>(session: &Session<B, Stopping>) -> bool {
     match session.book() {
         Some(book) => book.history().len() == 3,
         None => false,
@@ -132,8 +137,8 @@ fn has_steps(session: &Session<Stopping>) -> bool {
 }
 
 /// Whether a journal is opened at last, and its book has its steps.
-fn is_opened_at_last(alloc: Global, journal: Journal<Stopping>) -> bool {
-    match opened_at_last(alloc, journal) {
+fn is_opened_at_last<B: BookCalls>(alloc: Global, journal: Journal<Stopping>) -> bool {
+    match opened_at_last::<B>(alloc, journal) {
         Some(session) => {
             let has_steps = has_steps(&session);
             drop(session);
@@ -159,6 +164,6 @@ fn a_refused_growth_hands_the_journal_back(rt: HostRuntime) -> Result<(), Fail> 
     let Some(journal) = filled(alloc) else {
         return Err("out of memory".into());
     };
-    assert!(rt; is_opened_at_last(alloc, journal));
+    assert!(rt; is_opened_at_last::<Book>(alloc, journal));
     Ok(())
 }

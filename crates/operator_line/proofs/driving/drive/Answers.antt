@@ -12,7 +12,7 @@ use Rattle.operator_line.proofs.driving.drive.Goals.{in_default-via-in-Some+else
 
 pub returns-in-Some-clause-err : goal.returns-in-Some-clause-err
 returns-in-Some-clause-err g c =
-    let s = some_log c.args.book.now.book c.requires.open in
+    let s = some_log g.B.Events.log c.args.book.now.book c.requires.open in
     let it = c.in-Some.ensures.taken s.0 s.1 in
     let none : c.take_steps.new.lines.count ≡ 0 = sym c.count.ensures ∙ c.if-count-eq0.true in
     on_err-from c.refuse_change.result _ (it.1 ∙ ap (λ (x : Log). Some x) (none_taken c.args.count s.0 it.0 c.take_steps.new.lines c.in-Some.fault it.2 none) ∙ sym s.1)
@@ -20,9 +20,9 @@ returns-in-Some-clause-err g c =
 pub returns-clause-ok : goal.returns-clause-ok
 returns-clause-ok g c =
     let text = string_bytes c.accept_lines.new.self.text in
-    let after = log_in c.take_steps.new.book in
+    let after = log_in g.B.Events.log c.take_steps.new.book in
     let empty : string_bytes c.take_steps.new.reply.text ≡ [] = c.take_steps.ensures.text ∙ c.reserve_lines.ensures.same ∙ c.requires.empty in
-    if_log (λ log. OnOk c.accept_lines.result (AnswersDrive log c.args.count text after)) (log_in c.args.book.now)
+    if_log (λ log. OnOk c.accept_lines.result (AnswersDrive log c.args.count text after)) (log_in g.B.Events.log c.args.book.now)
     (λ before held.
     let it = c.take_steps.ensures.taken before held in
     let names = turn_steps it.2.turns in

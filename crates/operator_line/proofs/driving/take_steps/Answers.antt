@@ -13,7 +13,7 @@ use Rattle.operator_line.proofs.driving.take_steps.Goals as goal
 
 pub take_step-requires-clause-few : goal.take_step-requires-clause-few
 take_step-requires-clause-few g c =
-    let s = some_log c.args.book.now.book c.requires.open in
+    let s = some_log g.B.Events.log c.args.book.now.book c.requires.open in
     let it = c.loop-left.invariant.0 s.0 s.1 in
     few_lines c.args.count c.loop-left.left s.0 it.0 c.loop-left.passed c.loop-left.lines it.2 c.loop-left-test.true (omega (arith, c.ranges.count.fits))
 
@@ -24,14 +24,14 @@ loop-left-init g c = (
   refl,
   c.requires.room,
   λ clean. clean,
-  all_at_first (log_in c.args.book.now) (passed_in c.new-passed.result) (cursor_place c.new-cursor.result) c.new-cursor.ensures,
+  all_at_first (log_in g.B.Events.log c.args.book.now) (passed_in c.new-passed.result) (cursor_place c.new-cursor.result) c.new-cursor.ensures,
 )
 
 pub loop-left-preserved-in-Ok-Taken : goal.loop-left-preserved-in-Ok-Taken
 loop-left-preserved-in-Ok-Taken g c = (
   λ before held.
       let it = c.loop-left.invariant.0 before held in
-      let next = subst (λ (t : Tried). TakesOneOf (log_in c.loop-left.book) (log_in c.take_step.new.book) c.loop-left.passed c.take_step.new.passed c.loop-left.lines c.take_step.new.lines (Ok t)) c.in-Ok-Taken.field-0-is c.in-Ok-Taken.ensures.step it.0 it.1 in
+      let next = subst (λ (t : Tried). TakesOneOf (log_in g.B.Events.log c.loop-left.book) (log_in g.B.Events.log c.take_step.new.book) c.loop-left.passed c.take_step.new.passed c.loop-left.lines c.take_step.new.lines (Ok t)) c.in-Ok-Taken.field-0-is c.in-Ok-Taken.ensures.step it.0 it.1 in
       (next.0, next.1, one_more c.args.count c.loop-left.left before it.0 next.0 c.loop-left.passed c.take_step.new.passed c.loop-left.lines c.take_step.new.lines c.loop-left-test.true it.2 next.2),
   c.in-Ok-Taken.ensures.open,
   c.in-Ok-Taken.ensures.text ∙ c.loop-left.invariant.2,
@@ -44,7 +44,7 @@ pub loop-left-preserved : goal.loop-left-preserved
 loop-left-preserved g c = (
   λ before held.
       let it = c.loop-left.invariant.0 before held in
-      let next = subst (λ (t : Tried). TakesOneOf (log_in c.loop-left.book) (log_in c.take_step.new.book) c.loop-left.passed c.take_step.new.passed c.loop-left.lines c.take_step.new.lines (Ok t)) c.in-Ok-PassedBy.field-0-is c.in-Ok-PassedBy.ensures.step it.0 it.1 in
+      let next = subst (λ (t : Tried). TakesOneOf (log_in g.B.Events.log c.loop-left.book) (log_in g.B.Events.log c.take_step.new.book) c.loop-left.passed c.take_step.new.passed c.loop-left.lines c.take_step.new.lines (Ok t)) c.in-Ok-PassedBy.field-0-is c.in-Ok-PassedBy.ensures.step it.0 it.1 in
       (next.0, next.1, one_skipped c.args.count c.loop-left.left before it.0 next.0 c.loop-left.passed c.take_step.new.passed c.loop-left.lines c.take_step.new.lines c.loop-left-test.true it.2 next.2),
   c.in-Ok-PassedBy.ensures.open,
   c.in-Ok-PassedBy.ensures.text ∙ c.loop-left.invariant.2,
@@ -57,7 +57,7 @@ pub returns-in-Ok-NoMove-clause-taken : goal.returns-in-Ok-NoMove-clause-taken
 returns-in-Ok-NoMove-clause-taken g c =
     λ before held.
     let it = c.loop-left.invariant.0 before held in
-    let next = subst (λ (t : Tried). TakesOneOf (log_in c.loop-left.book) (log_in c.take_step.new.book) c.loop-left.passed c.take_step.new.passed c.loop-left.lines c.take_step.new.lines (Ok t)) c.in-Ok-NoMove.field-0-is c.in-Ok-NoMove.ensures.step it.0 it.1 in
+    let next = subst (λ (t : Tried). TakesOneOf (log_in g.B.Events.log c.loop-left.book) (log_in g.B.Events.log c.take_step.new.book) c.loop-left.passed c.take_step.new.passed c.loop-left.lines c.take_step.new.lines (Ok t)) c.in-Ok-NoMove.field-0-is c.in-Ok-NoMove.ensures.step it.0 it.1 in
     (next.0, next.1, none_left c.args.count c.loop-left.left before it.0 next.0 c.loop-left.passed c.take_step.new.passed c.loop-left.lines c.take_step.new.lines c.loop-left-test.true it.2 next.2)
 
 pub returns-in-Err-clause-taken : goal.returns-in-Err-clause-taken

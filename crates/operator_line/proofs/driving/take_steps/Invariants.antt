@@ -12,9 +12,9 @@ use Rattle.operator_line.proofs.driving.take_steps.Given as goal
 
 abbrev pub invariant-loop-left : goal.invariant-loop-left
 invariant-loop-left g l =
-    ((before : Log) → log_in l.initial.book ≡ Some before → (now : Log) × (log_in l.book ≡ Some now) × HasTaken l.count l.left before now l.passed l.lines) × IsSome l.book.book
+    ((before : Log) → log_in g.B.Events.log l.initial.book ≡ Some before → (now : Log) × (log_in g.B.Events.log l.book ≡ Some now) × HasTaken l.count l.left before now l.passed l.lines) × IsSome l.book.book
     × (string_bytes l.reply.text ≡ string_bytes l.initial.reply.text) × has_room_for_lines l.reply.text (string_len l.lines.text)
-    × WasClean (λ held. state g.S.Store held) l.initial.book.journal l.book.journal × LooksAtAll (log_in l.book) l.passed l.cursor
+    × WasClean (λ held. state g.S.Store held) l.initial.book.journal l.book.journal × LooksAtAll (log_in g.B.Events.log l.book) l.passed l.cursor
 
 -- each turn takes a step or adds a thread to those that are passed by, and no set is so large
 abbrev pub decreases-loop-left : goal.decreases-loop-left

@@ -28,7 +28,7 @@ pub returns-in_err-serve_read-clause-answers : goal.returns-in_err-serve_read-cl
 returns-in_err-serve_read-clause-answers g c =
     let p = err_from_is_err_and c.from_residual.result c.from_residual.ensures.1 in
     failed-answers c.from_residual.result _ (p.1 ∙ ap (λ x. Err x) p.2) _ _ _ _ _ (λ input e. reading-fails input (g.R.Read.remaining c.loop.reader) (g.R.Read.remaining c.serve_read.new.reader) c.loop.buffers.line c.serve_read.new.buffers.line
-    (session_log c.args.session.now) (session_log c.loop.session) (session_log c.serve_read.new.session) (g.W.Write.contents c.args.writer.now) (g.W.Write.contents c.loop.writer) (g.W.Write.contents c.serve_read.new.writer)
+    (session_log g.B.Events.log c.args.session.now) (session_log g.B.Events.log c.loop.session) (session_log g.B.Events.log c.serve_read.new.session) (g.W.Write.contents c.args.writer.now) (g.W.Write.contents c.loop.writer) (g.W.Write.contents c.serve_read.new.writer)
     (c.loop.invariant.1 input e) _ c.in_err-serve_read.ensures.read)
 
 pub returns-in_err-serve_read-clause-whole : goal.returns-in_err-serve_read-clause-whole
@@ -44,9 +44,9 @@ returns-in_err-serve_read-clause-read g c =
     let w = g.W.Write.contents c.loop.writer in
     let n = g.W.Write.contents c.serve_read.new.writer in
     failed-read c.from_residual.result _ (p.1 ∙ ap (λ x. Err x) p.2) _
-    (λ input f same. reading-failed input left left' c.loop.buffers.line c.serve_read.new.buffers.line (session_log c.args.session.now) (session_log c.loop.session) (session_log c.serve_read.new.session)
+    (λ input f same. reading-failed input left left' c.loop.buffers.line c.serve_read.new.buffers.line (session_log g.B.Events.log c.args.session.now) (session_log g.B.Events.log c.loop.session) (session_log g.B.Events.log c.serve_read.new.session)
     (g.W.Write.contents c.args.writer.now) w n (c.loop.invariant.1 input f)
-    (subst (λ (x : ServeFault). Asks (Err x) left left' c.loop.buffers.line c.serve_read.new.buffers.line (session_log c.loop.session) (session_log c.serve_read.new.session) w n) same c.in_err-serve_read.ensures.read))
+    (subst (λ (x : ServeFault). Asks (Err x) left left' c.loop.buffers.line c.serve_read.new.buffers.line (session_log g.B.Events.log c.loop.session) (session_log g.B.Events.log c.serve_read.new.session) w n) same c.in_err-serve_read.ensures.read))
 
 pub returns-then-not-branch-clause-read : goal.returns-then-not-branch-clause-read
 returns-then-not-branch-clause-read g c = λ e. absurd (last-reads_not c.serve_last.result _ _ _ _ _ c.serve_last.ensures.last e)
@@ -61,11 +61,11 @@ returns-then-not-branch-clause-answers g c =
     let left' = g.R.Read.remaining c.serve_read.new.reader in
     let p = g.W.Write.contents c.loop.writer in
     let n = g.W.Write.contents c.serve_read.new.writer in
-    let asks : Asks (Ok false) left left' c.loop.buffers.line c.serve_read.new.buffers.line (session_log c.loop.session) (session_log c.serve_read.new.session) p n =
-    subst (λ (b : Bool). Asks (Ok b) left left' c.loop.buffers.line c.serve_read.new.buffers.line (session_log c.loop.session) (session_log c.serve_read.new.session) p n) over c.in_ok-serve_read.ensures.read
+    let asks : Asks (Ok false) left left' c.loop.buffers.line c.serve_read.new.buffers.line (session_log g.B.Events.log c.loop.session) (session_log g.B.Events.log c.serve_read.new.session) p n =
+    subst (λ (b : Bool). Asks (Ok b) left left' c.loop.buffers.line c.serve_read.new.buffers.line (session_log g.B.Events.log c.loop.session) (session_log g.B.Events.log c.serve_read.new.session) p n) over c.in_ok-serve_read.ensures.read
     in
-    if_some _ (λ input e. (reading-ends input left left' c.loop.buffers.line c.serve_read.new.buffers.line (session_log c.args.session.now) (session_log c.loop.session) (session_log c.serve_read.new.session)
-    (g.W.Write.contents c.args.writer.now) p n (c.loop.invariant.1 input e) (session_log c.serve_last.new.session) (g.W.Write.contents c.serve_last.new.writer) c.serve_last.result asks c.serve_last.ensures.last).0)
+    if_some _ (λ input e. (reading-ends input left left' c.loop.buffers.line c.serve_read.new.buffers.line (session_log g.B.Events.log c.args.session.now) (session_log g.B.Events.log c.loop.session) (session_log g.B.Events.log c.serve_read.new.session)
+    (g.W.Write.contents c.args.writer.now) p n (c.loop.invariant.1 input e) (session_log g.B.Events.log c.serve_last.new.session) (g.W.Write.contents c.serve_last.new.writer) c.serve_last.result asks c.serve_last.ensures.last).0)
 
 pub returns-then-not-branch-clause-whole : goal.returns-then-not-branch-clause-whole
 returns-then-not-branch-clause-whole g c =
@@ -74,11 +74,11 @@ returns-then-not-branch-clause-whole g c =
     let left' = g.R.Read.remaining c.serve_read.new.reader in
     let p = g.W.Write.contents c.loop.writer in
     let n = g.W.Write.contents c.serve_read.new.writer in
-    let asks : Asks (Ok false) left left' c.loop.buffers.line c.serve_read.new.buffers.line (session_log c.loop.session) (session_log c.serve_read.new.session) p n =
-    subst (λ (b : Bool). Asks (Ok b) left left' c.loop.buffers.line c.serve_read.new.buffers.line (session_log c.loop.session) (session_log c.serve_read.new.session) p n) over c.in_ok-serve_read.ensures.read
+    let asks : Asks (Ok false) left left' c.loop.buffers.line c.serve_read.new.buffers.line (session_log g.B.Events.log c.loop.session) (session_log g.B.Events.log c.serve_read.new.session) p n =
+    subst (λ (b : Bool). Asks (Ok b) left left' c.loop.buffers.line c.serve_read.new.buffers.line (session_log g.B.Events.log c.loop.session) (session_log g.B.Events.log c.serve_read.new.session) p n) over c.in_ok-serve_read.ensures.read
     in
-    if_some _ (λ input e. on_ok-from c.serve_last.result (left' ≡ Some []) (reading-ends input left left' c.loop.buffers.line c.serve_read.new.buffers.line (session_log c.args.session.now) (session_log c.loop.session) (session_log c.serve_read.new.session)
-    (g.W.Write.contents c.args.writer.now) p n (c.loop.invariant.1 input e) (session_log c.serve_last.new.session) (g.W.Write.contents c.serve_last.new.writer) c.serve_last.result asks c.serve_last.ensures.last).1)
+    if_some _ (λ input e. on_ok-from c.serve_last.result (left' ≡ Some []) (reading-ends input left left' c.loop.buffers.line c.serve_read.new.buffers.line (session_log g.B.Events.log c.args.session.now) (session_log g.B.Events.log c.loop.session) (session_log g.B.Events.log c.serve_read.new.session)
+    (g.W.Write.contents c.args.writer.now) p n (c.loop.invariant.1 input e) (session_log g.B.Events.log c.serve_last.new.session) (g.W.Write.contents c.serve_last.new.writer) c.serve_last.result asks c.serve_last.ensures.last).1)
 
 pub loop-preserved : goal.loop-preserved
 loop-preserved g c =
@@ -87,8 +87,8 @@ loop-preserved g c =
     let left' = g.R.Read.remaining c.serve_read.new.reader in
     let p = g.W.Write.contents c.loop.writer in
     let n = g.W.Write.contents c.serve_read.new.writer in
-    let asks : Asks (Ok true) left left' c.loop.buffers.line c.serve_read.new.buffers.line (session_log c.loop.session) (session_log c.serve_read.new.session) p n =
-    subst (λ (b : Bool). Asks (Ok b) left left' c.loop.buffers.line c.serve_read.new.buffers.line (session_log c.loop.session) (session_log c.serve_read.new.session) p n) goes c.in_ok-serve_read.ensures.read
+    let asks : Asks (Ok true) left left' c.loop.buffers.line c.serve_read.new.buffers.line (session_log g.B.Events.log c.loop.session) (session_log g.B.Events.log c.serve_read.new.session) p n =
+    subst (λ (b : Bool). Asks (Ok b) left left' c.loop.buffers.line c.serve_read.new.buffers.line (session_log g.B.Events.log c.loop.session) (session_log g.B.Events.log c.serve_read.new.session) p n) goes c.in_ok-serve_read.ensures.read
     in
     let hands : HandsAsked (KeepsOne (λ held. state g.S.Store held)) (Ok true) left left' c.loop.buffers.line c.serve_read.new.buffers.line c.loop.session.journal c.serve_read.new.session.journal =
     subst (λ (b : Bool). HandsAsked (KeepsOne (λ held. state g.S.Store held)) (Ok b) left left' c.loop.buffers.line c.serve_read.new.buffers.line c.loop.session.journal c.serve_read.new.session.journal) goes c.in_ok-serve_read.ensures.handed
@@ -96,7 +96,7 @@ loop-preserved g c =
     let new = c.serve_read.new.piece in
     let rest = drop (length new) c.loop.piece.items in (
       omega (arith, c.loop.invariant.0, c.loop.piece.ok.0, length-take c.loop.piece.len (new ++ rest), length-append new rest, length-drop (length new) c.loop.piece.items),
-      λ input e. reading-goes_on input left left' c.loop.buffers.line c.serve_read.new.buffers.line (session_log c.args.session.now) (session_log c.loop.session) (session_log c.serve_read.new.session)
+      λ input e. reading-goes_on input left left' c.loop.buffers.line c.serve_read.new.buffers.line (session_log g.B.Events.log c.args.session.now) (session_log g.B.Events.log c.loop.session) (session_log g.B.Events.log c.serve_read.new.session)
           (g.W.Write.contents c.args.writer.now) p n (c.loop.invariant.1 input e) asks,
       c.in_ok-serve_read.ensures.failed,
       λ input e. handing-goes_on (KeepsOne (λ held. state g.S.Store held)) input left left' c.loop.buffers.line c.serve_read.new.buffers.line c.args.session.now.journal c.loop.session.journal c.serve_read.new.session.journal

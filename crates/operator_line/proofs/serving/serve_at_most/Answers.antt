@@ -1,8 +1,8 @@
 use Rattle.std.proofs.Common.{refl}
 use Rattle.sqlite.specs.Held.{state}
 use Rattle.operator_line.specs.Sessions.{KeepsOne}
-use Rattle.operator_line.proofs.Served.{if_some}
 use Rattle.operator_line.proofs.Handed.{some-none}
+use Rattle.operator_line.proofs.Served.{if_some}
 use Rattle.operator_line.proofs.serving.serve_at_most.Goals as goal
 
 pub returns-then-is_failed-clause-handed : goal.returns-then-is_failed-clause-handed

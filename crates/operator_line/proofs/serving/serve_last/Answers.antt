@@ -11,5 +11,5 @@ returns-clause-last g c =
     let o = g.W.Write.contents c.args.writer.now in
     let n = g.W.Write.contents c.flush.new.writer in
     let last : last_line c.args.buffers.now.line ≡ Some (bytes_of c.in-Some.last) = sym c.last.ensures ∙ ap (option_map bytes_of) c.in-Some.is in
-    subst (λ (l : Option (Option (List ℕ))). ServesLast c.flush.result l (session_log c.args.session.now) (session_log c.write_answer.new.session) o n) (sym last)
-    (line-flushed c.flush.result (bytes_of c.in-Some.last) reply (session_log c.args.session.now) (session_log c.write_answer.new.session) o (g.W.Write.contents c.write_answer.new.writer) n c.flush.ensures.err answered appended c.flush.ensures.kept)
+    subst (λ (l : Option (Option (List ℕ))). ServesLast c.flush.result l (session_log g.B.Events.log c.args.session.now) (session_log g.B.Events.log c.write_answer.new.session) o n) (sym last)
+    (line-flushed c.flush.result (bytes_of c.in-Some.last) reply (session_log g.B.Events.log c.args.session.now) (session_log g.B.Events.log c.write_answer.new.session) o (g.W.Write.contents c.write_answer.new.writer) n c.flush.ensures.err answered appended c.flush.ensures.kept)

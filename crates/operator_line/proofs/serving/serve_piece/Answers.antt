@@ -10,7 +10,7 @@ use Rattle.operator_line.proofs.serving.serve_piece.Goals as goal
 pub returns-in_err-serve_line-clause-piece : goal.returns-in_err-serve_line-clause-piece
 returns-in_err-serve_line-clause-piece g c front begun =
     let p = err_from_is_err_and c.from_residual.result c.from_residual.ensures.1 in
-    rw (p.1, p.2) (so_far-fails front c.args.piece.now c.loop-front.rest.now c.in-Some.front.now c.in-Some.after.now c.loop-front.has_line c.loop-front.buffers.line (session_log c.args.session.now) (session_log c.loop-front.session) (session_log c.serve_line.new.session)
+    rw (p.1, p.2) (so_far-fails front c.args.piece.now c.loop-front.rest.now c.in-Some.front.now c.in-Some.after.now c.loop-front.has_line c.loop-front.buffers.line (session_log g.B.Events.log c.args.session.now) (session_log g.B.Events.log c.loop-front.session) (session_log g.B.Events.log c.serve_line.new.session)
     (g.W.Write.contents c.args.writer.now) (g.W.Write.contents c.loop-front.writer) (g.W.Write.contents c.serve_line.new.writer) c.in-Some.ensures.0 c.in-Some.ensures.1 (c.loop-front.invariant.0 front begun) _ c.serve_line.new.buffers.line c.in_err-serve_line.ensures.answers)
 
 pub loop-front-preserved : goal.loop-front-preserved
@@ -19,8 +19,8 @@ loop-front-preserved g c = (
       let (reply, answered, appended) = c.in_ok-serve_line.ensures.answers in
       let o = g.W.Write.contents c.args.writer.now in
       let n = g.W.Write.contents c.serve_line.new.writer in
-      subst (λ (l : Option (List ℕ)). IsSoFar front c.args.piece.now c.in-Some.after.now true l (session_log c.args.session.now) (session_log c.serve_line.new.session) o n) (sym c.in_ok-serve_line.ensures.begun)
-      (so_far-goes_on front c.args.piece.now c.loop-front.rest.now c.in-Some.front.now c.in-Some.after.now c.loop-front.has_line c.loop-front.buffers.line (session_log c.args.session.now) (session_log c.loop-front.session) (session_log c.serve_line.new.session)
+      subst (λ (l : Option (List ℕ)). IsSoFar front c.args.piece.now c.in-Some.after.now true l (session_log g.B.Events.log c.args.session.now) (session_log g.B.Events.log c.serve_line.new.session) o n) (sym c.in_ok-serve_line.ensures.begun)
+      (so_far-goes_on front c.args.piece.now c.loop-front.rest.now c.in-Some.front.now c.in-Some.after.now c.loop-front.has_line c.loop-front.buffers.line (session_log g.B.Events.log c.args.session.now) (session_log g.B.Events.log c.loop-front.session) (session_log g.B.Events.log c.serve_line.new.session)
       o (g.W.Write.contents c.loop-front.writer) n c.in-Some.ensures.0 c.in-Some.ensures.1 (c.loop-front.invariant.0 front begun) reply answered appended),
   c.in_ok-serve_line.ensures.failed,
   λ front begun.
@@ -31,13 +31,13 @@ loop-front-preserved g c = (
 
 pub returns-then-has_line-clause-piece : goal.returns-then-has_line-clause-piece
 returns-then-has_line-clause-piece g c front begun =
-    so_far-flushes front c.args.piece.now c.loop-front.rest.now c.loop-front.has_line c.loop-front.buffers.line c.add.new.line (session_log c.args.session.now) (session_log c.loop-front.session)
+    so_far-flushes front c.args.piece.now c.loop-front.rest.now c.loop-front.has_line c.loop-front.buffers.line c.add.new.line (session_log g.B.Events.log c.args.session.now) (session_log g.B.Events.log c.loop-front.session)
     (g.W.Write.contents c.args.writer.now) (g.W.Write.contents c.loop-front.writer) (g.W.Write.contents c.flush.new.writer) (c.loop-front.invariant.0 front begun)
     c.flush.result c.flush.ensures.err c.in_default.ensures c.in_ok-add.ensures.ok c.if-has_line.true c.flush.ensures.kept
 
 pub returns-else-has_line-clause-piece : goal.returns-else-has_line-clause-piece
 returns-else-has_line-clause-piece g c front begun =
-    so_far-ends front c.args.piece.now c.loop-front.rest.now c.loop-front.has_line c.loop-front.buffers.line c.add.new.line (session_log c.args.session.now) (session_log c.loop-front.session)
+    so_far-ends front c.args.piece.now c.loop-front.rest.now c.loop-front.has_line c.loop-front.buffers.line c.add.new.line (session_log g.B.Events.log c.args.session.now) (session_log g.B.Events.log c.loop-front.session)
     (g.W.Write.contents c.args.writer.now) (g.W.Write.contents c.loop-front.writer) (g.W.Write.contents c.loop-front.writer) (c.loop-front.invariant.0 front begun)
     c.in_default.ensures c.in_ok-add.ensures.ok (Keeps-refl (g.W.Write.contents c.loop-front.writer))
 

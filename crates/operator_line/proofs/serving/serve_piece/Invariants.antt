@@ -9,7 +9,7 @@ use Rattle.operator_line.proofs.serving.serve_piece.Given as goal
 
 abbrev pub invariant-loop-front : goal.invariant-loop-front
 invariant-loop-front g l = ((front : List ℕ) → l.initial.buffers.line ≡ kept_front front
-    → IsSoFar front l.piece l.rest l.has_line l.buffers.line (session_log l.initial.session) (session_log l.session) (g.W.Write.contents l.initial.writer) (g.W.Write.contents l.writer)) × (l.session.is_failed ≡ false)
+    → IsSoFar front l.piece l.rest l.has_line l.buffers.line (session_log g.B.Events.log l.initial.session) (session_log g.B.Events.log l.session) (g.W.Write.contents l.initial.writer) (g.W.Write.contents l.writer)) × (l.session.is_failed ≡ false)
     × ((front : List ℕ) → l.initial.buffers.line ≡ kept_front front → HandsSoFar (KeepsOne (λ held. state g.S.Store held)) front l.piece l.rest l.buffers.line l.initial.session.journal l.session.journal)
 
 abbrev pub decreases-loop-front : goal.decreases-loop-front

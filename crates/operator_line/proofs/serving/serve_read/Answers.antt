@@ -13,7 +13,7 @@ pub returns-in_ok-serve_piece-in-Ok-clause-read : goal.returns-in_ok-serve_piece
 returns-in_ok-serve_piece-in-Ok-clause-read g c front text begun left =
     let (rest, left_is, split) = consumed text (g.R.Read.remaining c.read.new.self) _ (rw left at c.in-Ok.ensures.bytes.0) in
     let (tail, line_is, until) = c.in_ok-serve_piece-in-Ok.ensures.piece front begun in
-    (tail, rest, left_is, line_is, subst (λ (l : List ℕ). AnswersUntil (lines_after front l) (lines_after tail rest) (session_log c.args.session.now) (session_log c.serve_piece.new.session) (g.W.Write.contents c.args.writer.now) (g.W.Write.contents c.serve_piece.new.writer)) (sym split) (until rest))
+    (tail, rest, left_is, line_is, subst (λ (l : List ℕ). AnswersUntil (lines_after front l) (lines_after tail rest) (session_log g.B.Events.log c.args.session.now) (session_log g.B.Events.log c.serve_piece.new.session) (g.W.Write.contents c.args.writer.now) (g.W.Write.contents c.serve_piece.new.writer)) (sym split) (until rest))
 
 pub returns-in_ok-serve_piece-in-Ok-clause-handed : goal.returns-in_ok-serve_piece-in-Ok-clause-handed
 returns-in_ok-serve_piece-in-Ok-clause-handed g c front text begun left =

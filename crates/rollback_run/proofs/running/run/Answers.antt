@@ -5,7 +5,7 @@ use Rattle.rollback_run.proofs.running.run.Goals as goal
 
 pub returns-in-Ok : goal.returns-in-Ok
 returns-in-Ok g c = inl (record {
-  book = session_log c.in-Ok.session;
+  book = session_log g.B.Events.log c.in-Ok.session;
   loaded = c.in-Ok.session.journal;
   opens = c.in-Ok.ensures.ok;
   is_run = c.run_owned-outcome.ensures;

@@ -1,5 +1,5 @@
 use denote.Param.Send.{sendable}
-use Rattle.book_rounds.proofs.Sending.{book_send}
+use Rattle.threaded_book.proofs.Sending.{book_send}
 use Rattle.shared_tests.proofs.passes.one_of_each.Goals as goal
 
 pub undo_beside-undone-requires-send-B : goal.undo_beside-undone-requires-send-B

@@ -1,5 +1,5 @@
 use denote.Param.Send.{sendable}
-use Rattle.book_rounds.proofs.Sending.{book_send}
+use Rattle.threaded_book.proofs.Sending.{book_send}
 use Rattle.shared_tests.proofs.rounds.run.Goals as goal
 
 pub work_beside-both-requires-send-B : goal.work_beside-both-requires-send-B

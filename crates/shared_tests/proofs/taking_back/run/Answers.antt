@@ -1,5 +1,5 @@
 use denote.Param.Send.{sendable}
-use Rattle.book_rounds.proofs.Sending.{book_send}
+use Rattle.threaded_book.proofs.Sending.{book_send}
 use Rattle.shared_tests.proofs.taking_back.run.Goals as goal
 
 pub take_back-requires-send-B : goal.take_back-requires-send-B

@@ -9,9 +9,9 @@ use Rattle.operator_line.proofs.open_session.OpenSession.items.Goals as goal
 
 pub returns-in-Some : goal.returns-in-Some
 returns-in-Some g c =
-    let log = c.in-Some.book.now.log in
+    let log = g.B.Events.log c.in-Some.book.now in
     let held : c.args.self.now.book ≡ Some c.in-Some.book.now = search rules in
-    let opened : log_in c.args.self.now ≡ Some log = ap log_of held in
+    let opened : log_in g.B.Events.log c.args.self.now ≡ Some log = ap (log_of g.B.Events.log) held in
     let listed = items_left c.items.result in
     let said : OnOk c.accept_items.result (AnswersListing log (string_bytes c.accept_items.new.self.text) (Some log)) =
     on_ok_weaker c.accept_items.result

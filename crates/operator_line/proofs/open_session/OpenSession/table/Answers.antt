@@ -21,9 +21,9 @@ returns-in-Ok-List-clause-ok g c =
     let json = c.args.items.now in
     let ds = c.in-Ok-List.items in
     let text = string_bytes c.begin.new.reply.text in
-    let after = log_in c.begin.new.self in
+    let after = log_in g.B.Events.log c.begin.new.self in
     let is_read : read_json json ≡ Some (list (items_of ds)) = ap read_json (sym c.as_bytes.ensures.value) ∙ c.in-Ok-List.ensures.ok ∙ ap (λ (j : Json). Some (data_of j)) c.in-Ok-List.field-0-is in
     let said : OnOk c.begin.result (AnswersTable name schema json text after) =
     on_ok_weaker c.begin.result (λ t. json-read json (list (items_of ds)) (λ told'. AnswersUnchanged told' None text after) (λ d. AnswersItems name schema d text after) is_read (items-begin name schema ds text after t)) c.begin.ensures.ok
     in
-    rw (← c.self.view_is) (answers_begun book (grammar.table name schema json) c.begin.result text after closed said)
+    rw (← c.self.view_is) (answers_begun g.B.Events.log book (grammar.table name schema json) c.begin.result text after closed said)

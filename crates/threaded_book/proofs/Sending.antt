@@ -1,19 +1,19 @@
 -- What a book may be sent with to another thread.
 use denote.Param.Send.{IsSend, IsSync}
-use Rattle.book_log.specs.contracts.begin.Begin as begin
-use Rattle.branch_tree.proofs.branch.Branch.TheLaws.TheKnot as k_branch_tree_Branch
-use Rattle.branch_tree.specs.contracts.branch.Branch as branch
-use Rattle.branch_tree.specs.contracts.tree.Tree as tree
-use Rattle.item_store.specs.contracts.store.ItemStore as item_store
-use Rattle.linked_classes.proofs.classed.ClassedVec.TheSendSync as classed
+use Rattle.rollback_book.below.book_log.specs.contracts.begin.Begin as begin
+use Rattle.rollback_book.below.branch_tree.proofs.branch.Branch.TheLaws.TheKnot as k_branch_tree_Branch
+use Rattle.rollback_book.below.branch_tree.specs.contracts.branch.Branch as branch
+use Rattle.rollback_book.below.branch_tree.specs.contracts.tree.Tree as tree
+use Rattle.rollback_book.below.item_store.specs.contracts.store.ItemStore as item_store
+use Rattle.rollback_book.below.linked_classes.proofs.classed.ClassedVec.TheSendSync as classed
 use Rattle.rollback_book.below.step_history.proofs.settled_names.SettledNames.TheSendSync as settled_names
 use Rattle.rollback_book.proofs.hold.Hold.TheSendSync as hold
 use Rattle.rollback_book.specs.contracts.book.Book as book
-use Rattle.saved_steps.specs.contracts.executions.Executions as executions
-use Rattle.saved_steps.specs.contracts.places.Places as executions_places
-use Rattle.saved_steps.specs.contracts.record.Saved as saved
-use Rattle.saved_steps.specs.contracts.record.StepRecord as step_record
-use Rattle.saved_steps.specs.contracts.world.World as world
+use Rattle.rollback_book.below.saved_steps.specs.contracts.executions.Executions as executions
+use Rattle.rollback_book.below.saved_steps.specs.contracts.places.Places as executions_places
+use Rattle.rollback_book.below.saved_steps.specs.contracts.record.Saved as saved
+use Rattle.rollback_book.below.saved_steps.specs.contracts.record.StepRecord as step_record
+use Rattle.rollback_book.below.saved_steps.specs.contracts.world.World as world
 use Rattle.rollback_book.specs.HistoryContract as history
 use Rattle.rollback_book.specs.StepRecordsContract as step_records
 use Rattle.step_workers.proofs.Sending.{base, entry_field_send, entry_field_sync, entry_send, entry_sync, frame_field_send, frame_field_sync, frame_send, frame_sync, item_field_send, item_field_sync, item_send, item_sync, json_list_field_send, json_list_field_sync, json_list_send, json_list_sync, shared_machine_field_send, shared_machine_field_sync, shared_machine_send, shared_machine_sync}

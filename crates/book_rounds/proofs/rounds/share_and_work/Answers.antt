@@ -1,6 +1,0 @@
-use denote.Param.Send.{sendable}
-use Rattle.book_rounds.proofs.Sending.{book_send}
-use Rattle.book_rounds.proofs.rounds.share_and_work.Goals as goal
-
-pub work-requires-send-B : goal.work-requires-send-B
-work-requires-send-B g c = λ κs inside. search (book_send, sendable)

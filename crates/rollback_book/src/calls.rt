@@ -1,0 +1,43 @@
+// The calls of a book that one caller has, as `Book` has them.
+ghost use Rattle.rollback_book.specs.Making.{CanEnter};
+
+use crate::book::Book;
+use crate::making::Made;
+use attr_values::ItemFault;
+use book_events::{BookCalls, Change};
+use book_log::{Begin, Entry, Refusal};
+use item_store::Items;
+use std::alloc::Global;
+use step_history::StepRecords;
+
+impl BookCalls for Book {
+    type Made = Made;
+
+    ghost entry_in = { λ m. m.entry };
+
+    ghost can_enter = { CanEnter };
+
+    fn open(alloc: Global, begin: Begin) -> Result<Book, ItemFault> {
+        Book::open(alloc, begin)
+    }
+
+    fn ready_entry(&mut self, alloc: Global, change: Change<'_>) -> Result<Made, Refusal> {
+        Book::ready_entry(self, alloc, change)
+    }
+
+    fn enter(&mut self, made: Made) {
+        Book::enter(self, made)
+    }
+
+    fn entry_of(made: &Made) -> &Entry {
+        made.entry()
+    }
+
+    fn items(&self) -> Items<'_> {
+        Book::items(self)
+    }
+
+    fn history(&self) -> &StepRecords {
+        Book::history(self)
+    }
+}

@@ -1,0 +1,12 @@
+use denote.Param.Send.{sendable}
+use Rattle.threaded_book.proofs.Sending.{book_send}
+use Rattle.session_tests.proofs.serving.a_reader_that_is_asked_too_often.Goals as goal
+
+pub ended_within-requires-send-B : goal.ended_within-requires-send-B
+ended_within-requires-send-B c = λ κs inside. search (book_send, sendable)
+
+pub ended_within-2-requires-send-B : goal.ended_within-2-requires-send-B
+ended_within-2-requires-send-B c = λ κs inside. search (book_send, sendable)
+
+pub ended_within-3-requires-send-B : goal.ended_within-3-requires-send-B
+ended_within-3-requires-send-B c = λ κs inside. search (book_send, sendable)
