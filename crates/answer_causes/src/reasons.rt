@@ -114,8 +114,8 @@ fn value_in(alloc: Global, case: &Case) -> Result<Json, AllocError> {
         Case::NoList(it) => it.of.copy(),
         Case::NoRuleHolds(it) => it.of.copy(),
         Case::Malformed(it) => it.of.copy(),
-        Case::NoKey(it) => write_item(alloc, &it.of),
-        Case::OtherAttribute(it) => write_item(alloc, &it.of),
+        Case::NoKey(it) => write_item(&it.of),
+        Case::OtherAttribute(it) => write_item(&it.of),
         _ => Ok(Json::Null),
     }
 }

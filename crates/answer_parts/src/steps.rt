@@ -167,7 +167,7 @@ fn part_value(alloc: Global, part: &KeyPart) -> Result<Json, AllocError> {
 /// An item, or `null`. Takes time and memory in its size.
 pub fn item_value(alloc: Global, item: Option<&Item>) -> Result<Json, AllocError> {
     match item {
-        Some(item) => write_item(alloc, item),
+        Some(item) => write_item(item),
         None => Ok(Json::Null),
     }
 }

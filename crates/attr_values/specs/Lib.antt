@@ -7,8 +7,8 @@ pub mod View
 pub mod Falls
 pub mod Faults
 pub mod Reading
-pub mod Writing
 pub mod Proper
+pub mod Writing
 pub mod Order
 pub mod Item
 pub mod Key

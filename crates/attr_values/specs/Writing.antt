@@ -1,8 +1,9 @@
 -- The one JSON value that is written for a value: an object with one field, named for its type.
-use Rattle.std.specs.Prelude.{ℕ, true, List, map, codes}
+use Rattle.std.specs.Prelude.{◌≡◌, ℕ, true, List, map, codes}
 use Rattle.json_tree.specs.Data as json
 use Rattle.attr_values.specs.Decimal.{Decimal}
 use Rattle.attr_values.specs.Numeral.{number_text}
+use Rattle.attr_values.specs.Proper.{IsItem}
 use Rattle.attr_values.specs.Datum.{Datum, text, number, boolean, null, list, document, texts, numbers, Elements, no_elements, element, Attributes, no_attributes, attribute, attributes_of}
 
 abbrev pub one_field : List ℕ → json.Data → json.Data
@@ -38,3 +39,8 @@ json_entries = map json_entry
 
 abbrev pub item_json : List (List ℕ × Datum) → json.Data
 item_json ms = json.fields (json_members (attributes_of ms))
+
+-- what each item keeps beside its attributes: the fields that are written for it
+pub record KeepsJson (ms : List (List ℕ × Datum)) (written : List (List ℕ × json.Data)) : Type 0 where
+  pub item : IsItem ms
+  pub fields : written ≡ json_entries ms

@@ -8,30 +8,33 @@ ghost use Rattle.attr_values.specs.Item.{get_attribute};
 ghost use Rattle.attr_values.specs.Proper.{IsItem};
 ghost use Rattle.attr_values.specs.Reading as spec;
 ghost use Rattle.attr_values.specs.View.{datum_of};
-ghost use Rattle.attr_values.specs.Writing.{item_json};
+ghost use Rattle.attr_values.specs.Writing.{item_json, json_entries};
 
 use crate::fault::ItemFault;
 use crate::order::compare_maps;
 use crate::reading::{MOST_LEVELS, read_attributes};
+use crate::spelling::is_map_spelled;
 use crate::value::{Value, ValueMap};
 use crate::writing::write_map;
-use json_tree::Json;
+use json_tree::{Json, JsonFields};
 use std::alloc::{AllocError, Global};
 use std::cmp::Ordering;
 use std::marker::Model;
 
 /// An item (PutItem of the DynamoDB API): attributes, each name once and in the order of the names' bytes. Owners share them.
-/// Contracts see a list of pairs. Items are made by `read_item` alone, so what `IsItem` says holds of each.
+/// Contracts see a list of pairs. Items are made by `read_item` alone, so what `IsItem` says holds of each. An item keeps the
+/// fields that are written for it, so that to write it takes no memory: those that it was read from, where they are spelled so.
 #[derive(Debug, Drop)]
 pub struct Item {
     attributes: ValueMap,
+    written: JsonFields,
 }
 
 impl Model for Item {
     ghost use Rattle.std.specs.Prelude.{List, ℕ};
     ghost use Rattle.attr_values.specs.Datum.{Datum};
     ghost use Rattle.attr_values.specs.DatumCode.{entries_code};
-    ghost use Rattle.attr_values.specs.Proper.{IsItem};
+    ghost use Rattle.attr_values.specs.Writing.{KeepsJson};
 
     ghost Value = { List (List ℕ × Datum) };
 
@@ -39,7 +42,7 @@ impl Model for Item {
 
     ghost view = { λ a. a.attributes };
 
-    ghost invariant = { λ a. IsItem a.attributes };
+    ghost invariant = { λ a. KeepsJson a.attributes a.written };
 }
 
 impl Item {
@@ -62,13 +65,16 @@ impl Item {
         self.attributes.get(name)
     }
 
-    /// The same item, in one step: its attributes are shared. Takes no memory, and is refused only where their owners cannot
-    /// be counted.
+    /// The same item, in one step: its attributes and its JSON are shared. Takes no memory, and is refused only where their
+    /// owners cannot be counted.
     pub fn copy(&self) -> Result<Item, AllocError>
         ensures { IfOk result (λ i. i ≡ self.now) }
     {
+        let written = self.written.copy()?;
+        let attributes = self.attributes.copy()?;
         Ok(Item {
-            attributes: self.attributes.copy()?,
+            attributes,
+            written,
         })
     }
 
@@ -139,7 +145,8 @@ impl Ord for Item {
 }
 
 /// Reads an item: an object whose fields are attributes. Takes memory for the attributes, and for each list, map and set
-/// among them; names and texts are shared.
+/// among them; names and texts are shared. So are the fields that are read, where they are spelled as they would be written.
+/// Where they are not, as with a number `1.0`, it takes memory for the JSON of each value too.
 pub fn read_item(alloc: Global, json: &Json) -> Result<Item, ItemFault>
     ensures read { AnswersAs attributes_of (spec.read_item (data_of json.now)) result }
     ensures kept { IfOk result IsItem }
@@ -148,17 +155,36 @@ pub fn read_item(alloc: Global, json: &Json) -> Result<Item, ItemFault>
     let Json::Fields(fields) = json else {
         return Err(ItemFault::BadValue);
     };
-    match read_attributes(alloc, fields, MOST_LEVELS) {
-        Ok(attributes) => Ok(Item { attributes }),
-        Err(fault) => Err(fault),
-    }
+    let attributes = match read_attributes(alloc, fields, MOST_LEVELS) {
+        Ok(attributes) => attributes,
+        Err(fault) => return Err(fault),
+    };
+    let written = written_of(alloc, &attributes, fields)?;
+    Ok(Item {
+        attributes,
+        written,
+    })
 }
 
-/// Writes an item as an object, its attributes in the order of their names' bytes. Takes memory for each value; names
-/// and texts are shared.
-pub fn write_item(alloc: Global, item: &Item) -> Result<Json, AllocError>
+/// What is written for attributes: the fields that they were read from, where these are spelled so, and else new ones.
+fn written_of(
+    alloc: Global,
+    attributes: &ValueMap,
+    fields: &JsonFields,
+) -> Result<JsonFields, AllocError>
+    ensures { IfOk result (λ written. written ≡ json_entries attributes.now) }
+{
+    if is_map_spelled(attributes, fields) {
+        return fields.copy();
+    }
+    write_map(alloc, attributes)
+}
+
+/// Writes an item as an object, its attributes in the order of their names' bytes. In one step: the object is shared. Takes no
+/// memory, and is refused only where its owners cannot be counted.
+pub fn write_item(item: &Item) -> Result<Json, AllocError>
     ensures json { IfOk result (λ j. data_of j ≡ item_json item.now) }
     ensures reads_back { IfOk result (λ j. spec.read_item (data_of j) ≡ Ok (attributes_of item.now)) }
 {
-    Ok(Json::Fields(write_map(alloc, &item.attributes)?))
+    Ok(Json::Fields(item.written.copy()?))
 }

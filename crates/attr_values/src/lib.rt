@@ -11,6 +11,7 @@ mod laws;
 mod number;
 mod order;
 mod reading;
+mod spelling;
 mod value;
 mod writing;
 

@@ -1,6 +1,6 @@
 //! Decimal numbers, their text and their order.
 
-ghost use Rattle.std.specs.Prelude.{◌≡◌, ◌*◌, ◌/◌, ◌%◌, ◌^◌, ◌<◌, ◌++◌, ℕ, true, false, replicate, IsTrue, MatchOption, IfOk, OnOk, Some, string_bytes};
+ghost use Rattle.std.specs.Prelude.{◌≡◌, ◌*◌, ◌/◌, ◌%◌, ◌^◌, ◌<◌, ◌++◌, ℕ, true, false, replicate, IsTrue, MatchOption, IfSome, IfOk, OnOk, Some, decimal, string_bytes};
 ghost use Rattle.std.specs.Char.{is_ascii_digit};
 ghost use Rattle.std.specs.List.{list_all, position};
 ghost use Rattle.std.specs.Option.{SomeIff, ok_or};
@@ -8,7 +8,7 @@ ghost use Rattle.std.specs.Str.Parse.{digits_value_after};
 ghost use Rattle.std.specs.Ordering.{nat_cmp};
 ghost use Rattle.attr_values.specs.Decimal.{IsNormal, value_cmp};
 ghost use Rattle.attr_values.specs.Numeral as numeral;
-ghost use Rattle.attr_values.specs.Numeral.{is_point, is_unsigned, read_number, number_text, last_digits, IsShort, SplitsAtPoint};
+ghost use Rattle.attr_values.specs.Numeral.{is_point, is_unsigned, read_number, number_text, sign_text, fraction_text, last_digits, IsShort, SplitsAtPoint};
 
 use crate::fault::ItemFault;
 use itoa::Buffer;
@@ -63,6 +63,65 @@ impl Number {
         ensures reads_back { IfOk result (λ s. read_number (string_bytes s) ≡ Some self.now) }
     {
         spell(alloc, self)
+    }
+
+    /// Whether a text is that spelling. Takes no memory.
+    pub(crate) fn is_text(&self, text: &str) -> bool
+        ensures { IsTrue result → text.now ≡ number_text self.now }
+    {
+        let magnitude = self.coefficient.unsigned_abs();
+        let (whole, _fraction) = split(magnitude, self.places);
+        let Some(unsigned) = after_sign(self.coefficient, text.as_bytes()) else {
+            return false;
+        };
+        match after_whole(whole, unsigned) {
+            Some(rest) => is_fraction(rest, self.places, magnitude),
+            None => false,
+        }
+    }
+}
+
+/// What a spelling has after its sign.
+fn after_sign(coefficient: i128, text: &[u8]) -> Option<&[u8]>
+    ensures { IfSome result (λ rest. text.now ≡ sign_text coefficient ++ rest.now) }
+{
+    if coefficient >= 0 {
+        return Some(text);
+    }
+    match text {
+        [b'-', rest @ ..] => Some(rest),
+        _ => None,
+    }
+}
+
+/// What it has after its whole part.
+fn after_whole(whole: u128, text: &[u8]) -> Option<&[u8]>
+    ensures { IfSome result (λ rest. text.now ≡ decimal whole ++ rest.now) }
+{
+    text.strip_prefix(Buffer::new().format(whole).as_bytes())
+}
+
+fn is_fraction(text: &[u8], places: u8, magnitude: u128) -> bool
+    ensures { IsTrue result → text.now ≡ fraction_text places magnitude }
+{
+    match text {
+        [] => places == 0,
+        [b'.', digits @ ..] => places > 0 && are_last_digits(digits, places, magnitude),
+        _ => false,
+    }
+}
+
+/// Whether these are the last `count` digits of `n`. The last one is compared first.
+fn are_last_digits(digits: &[u8], count: u8, n: u128) -> bool
+    ensures { IsTrue result → digits.now ≡ last_digits count n }
+{
+    match digits {
+        [] => count == 0,
+        [before @ .., last] => {
+            count > 0
+                && *last == b'0' + (n % 10) as u8
+                && are_last_digits(before, count - 1, n / 10)
+        }
     }
 }
 

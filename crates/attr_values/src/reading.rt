@@ -63,7 +63,7 @@ fn kind_of(name: &str) -> Option<Kind>
 }
 
 /// The name and the value of an object's only field.
-fn only_field(fields: &JsonFields) -> Option<(&str, &Json)>
+pub(crate) fn only_field(fields: &JsonFields) -> Option<(&str, &Json)>
     ensures { MatchOption result (length fields.now ≢ 1) (λ r. fields.now ≡ (r.0.now, data_of r.1.now) ∷ []) }
 {
     match fields.as_slice() {

@@ -307,7 +307,7 @@ pub(crate) fn is_answered(
 
 fn put_items(alloc: Global, book: &Book, text: &mut String) -> Result<(), AllocError> {
     for item in book.items() {
-        let json = write_item(alloc, item)?;
+        let json = write_item(item)?;
         text.push_str(write_text(alloc, &json)?.as_str())?;
     }
     Ok(())

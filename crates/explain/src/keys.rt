@@ -193,7 +193,7 @@ fn in_others(
     schema: &KeySchema,
     item: &Item,
 ) -> Result<Option<Case>, AllocError> {
-    let Json::Fields(attributes) = write_item(alloc, item)? else {
+    let Json::Fields(attributes) = write_item(item)? else {
         return Ok(None);
     };
     for attribute in attributes.as_slice() {

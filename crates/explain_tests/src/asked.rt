@@ -156,7 +156,7 @@ fn name_text(alloc: Global, what: &str, name: &Text) -> Result<String, Fail> {
 
 fn condition_text(alloc: Global, name: &Text, item: &Option<Item>) -> Result<String, Fail> {
     match item {
-        Some(item) => about(alloc, "condition", name, &write_item(alloc, item)?),
+        Some(item) => about(alloc, "condition", name, &write_item(item)?),
         None => name_text(alloc, "condition without item", name),
     }
 }

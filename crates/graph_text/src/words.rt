@@ -37,7 +37,7 @@ impl Page {
 
     /// An item: each of its attributes as an attribute value.
     pub(crate) fn item(&mut self, alloc: Global, item: &Item) -> Result<(), AllocError> {
-        let json = write_item(alloc, item)?;
+        let json = write_item(item)?;
         self.json(alloc, &json)
     }
 

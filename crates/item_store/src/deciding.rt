@@ -114,7 +114,7 @@ fn object_with(alloc: Global, name: &str, item: Option<&Item>) -> Result<Json, A
     let mut fields = JsonFields::new(alloc);
     if let Some(item) = item {
         let name = Text::new(alloc, name)?;
-        drop(fields.insert(name, write_item(alloc, item)?)?);
+        drop(fields.insert(name, write_item(item)?)?);
     }
     Ok(Json::Fields(fields))
 }

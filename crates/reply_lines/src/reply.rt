@@ -295,7 +295,7 @@ impl Reply {
     fn item_line(&mut self, alloc: Global, item: &Item) -> Result<(), AllocError>
         ensures ok { AppendsReply result self.old self.new (with_feed (text_of (item_json item.now))) }
     {
-        let json = write_item(alloc, item)?;
+        let json = write_item(item)?;
         self.json_line(alloc, &json)
     }
 

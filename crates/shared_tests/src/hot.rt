@@ -144,7 +144,7 @@ fn are_same_frames(alloc: Global, one: &Book, other: &Book, executions: u32) -> 
 fn items_in(alloc: Global, book: &Book) -> Result<String, AllocError> {
     let mut text = String::new(alloc);
     for item in book.items() {
-        let json = write_item(alloc, item)?;
+        let json = write_item(item)?;
         text.push_str(write_text(alloc, &json)?.as_str())?;
     }
     Ok(text)

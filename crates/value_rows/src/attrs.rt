@@ -70,7 +70,7 @@ fn put_value_row(alloc: Global, out: &mut String, text: &str) -> Result<(), RowF
 }
 
 pub(crate) fn put_item(alloc: Global, out: &mut String, item: &Item) -> Result<(), RowFault> {
-    let json = write_item(alloc, item)?;
+    let json = write_item(item)?;
     put(alloc, out, &json)
 }
 
@@ -82,7 +82,7 @@ fn is_item_kept(alloc: Global, item: &Item) -> Result<bool, RowFault> {
 }
 
 fn is_item_read_back(alloc: Global, item: &Item) -> Result<bool, RowFault> {
-    let json = write_item(alloc, item)?;
+    let json = write_item(item)?;
     let again = read_item(alloc, &json);
     drop(json);
     Ok(again? == *item)
