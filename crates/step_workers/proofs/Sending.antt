@@ -74,6 +74,7 @@ use Rattle.step_names.proofs.exec_name.ExecName.TheSendSync as s_step_names_Exec
 use Rattle.step_names.proofs.step.StepName.TheSendSync as s_step_names_StepName
 use Rattle.step_names.proofs.thread.ThreadName.TheSendSync as s_step_names_ThreadName
 use Rattle.json_tree.specs.contracts.tree.Json as json
+use Rattle.json_tree.specs.contracts.tree.JsonFields as json_fields
 use Rattle.json_tree.specs.contracts.tree.JsonList as json_list
 use Rattle.ref_paths.specs.contracts.template.Node as node
 use Rattle.ref_paths.specs.contracts.template.Template as template
@@ -114,6 +115,18 @@ json_field_sync = search (k_json_tree_JsonFields.crosses, base) depth 60 fits 20
 
 pub json_sync : IsSync json.the_row
 json_sync = search (k_json_tree_JsonFields.crosses, base) depth 60 fits 20000
+
+pub json_fields_field_send : IsSend (json_fields.the_field).row
+json_fields_field_send = search (k_json_tree_JsonFields.crosses, base) depth 60 fits 20000
+
+pub json_fields_send : IsSend json_fields.the_row
+json_fields_send = search (k_json_tree_JsonFields.crosses, base) depth 60 fits 20000
+
+pub json_fields_field_sync : IsSync (json_fields.the_field).row
+json_fields_field_sync = search (k_json_tree_JsonFields.crosses, base) depth 60 fits 20000
+
+pub json_fields_sync : IsSync json_fields.the_row
+json_fields_sync = search (k_json_tree_JsonFields.crosses, base) depth 60 fits 20000
 
 pub json_list_field_send : IsSend (json_list.the_field).row
 json_list_field_send = search (k_json_tree_JsonFields.crosses, base) depth 60 fits 20000
@@ -308,16 +321,16 @@ pub value_map_sync : IsSync value_map.the_row
 value_map_sync = search (k_attr_values_ValueList.crosses, base) depth 60 fits 20000
 
 pub item_field_send : IsSend (item.the_field).row
-item_field_send = search (value_map_send, value_map_sync, value_map_field_send, value_map_field_sync, base) depth 60 fits 20000
+item_field_send = search (value_map_send, value_map_sync, json_fields_send, json_fields_sync, value_map_field_send, value_map_field_sync, json_fields_field_send, json_fields_field_sync, base) depth 60 fits 20000
 
 pub item_send : IsSend item.the_row
-item_send = search (value_map_send, value_map_sync, value_map_field_send, value_map_field_sync, base) depth 60 fits 20000
+item_send = search (value_map_send, value_map_sync, json_fields_send, json_fields_sync, value_map_field_send, value_map_field_sync, json_fields_field_send, json_fields_field_sync, base) depth 60 fits 20000
 
 pub item_field_sync : IsSync (item.the_field).row
-item_field_sync = search (value_map_send, value_map_sync, value_map_field_send, value_map_field_sync, base) depth 60 fits 20000
+item_field_sync = search (value_map_send, value_map_sync, json_fields_send, json_fields_sync, value_map_field_send, value_map_field_sync, json_fields_field_send, json_fields_field_sync, base) depth 60 fits 20000
 
 pub item_sync : IsSync item.the_row
-item_sync = search (value_map_send, value_map_sync, value_map_field_send, value_map_field_sync, base) depth 60 fits 20000
+item_sync = search (value_map_send, value_map_sync, json_fields_send, json_fields_sync, value_map_field_send, value_map_field_sync, json_fields_field_send, json_fields_field_sync, base) depth 60 fits 20000
 
 pub request_field_send : IsSend (request.the_field).row
 request_field_send = search (item_send, item_sync, item_field_send, item_field_sync, base) depth 60 fits 20000
