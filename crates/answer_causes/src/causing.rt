@@ -216,8 +216,8 @@ fn change_row(
 ) -> Result<Json, AllocError> {
     let mut change = Object::new(asked.alloc);
     change.put("key", key_value(asked, key));
-    change.put("now", item_value(asked.alloc, now));
-    change.put("then", item_value(asked.alloc, then));
+    change.put("now", item_value(now));
+    change.put("then", item_value(then));
     change.done()
 }
 

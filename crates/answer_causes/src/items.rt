@@ -41,7 +41,7 @@ fn item_with(
     answer.put("key", key_value(asked, key));
     answer.put_list("accesses", rows);
     answer.put_whether("more", more);
-    answer.put("now", item_value(asked.alloc, now));
+    answer.put("now", item_value(now));
     Ok(Some(answer.done()?))
 }
 
@@ -112,11 +112,8 @@ fn access_row(
     if let Some(access) = &kept.fact.access {
         row.put_text("access", access_word(asked, kept, access));
     }
-    row.put(
-        "before",
-        item_value(asked.alloc, before_access(kept, after)),
-    );
-    row.put("after", item_value(asked.alloc, after));
+    row.put("before", item_value(before_access(kept, after)));
+    row.put("after", item_value(after));
     row.done()
 }
 
@@ -211,7 +208,7 @@ fn is_left_out(
 fn item_row(asked: &Asked<'_>, item: &Item, key: &Key) -> Result<Json, AllocError> {
     let mut row = Object::new(asked.alloc);
     row.put("key", key_value(asked, key));
-    row.put("item", item_value(asked.alloc, Some(item)));
+    row.put("item", item_value(Some(item)));
     row.put("writer", writer_of(asked, key));
     row.done()
 }

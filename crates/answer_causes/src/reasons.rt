@@ -72,7 +72,7 @@ fn case_word(case: &Case) -> &'static str {
 /// What belongs to a case. `path` and `of` are there in each.
 fn put_case(alloc: Global, value: &mut Object, case: &Case) {
     value.put_word("path", path_in(case));
-    value.put("of", value_in(alloc, case));
+    value.put("of", value_in(case));
     match case {
         Case::TooMany(it) => value.put_number("elements", it.elements.len()),
         Case::Malformed(it) => put_flaw(value, &it.flaw),
@@ -89,7 +89,7 @@ fn put_case(alloc: Global, value: &mut Object, case: &Case) {
         Case::FailedCondition(it) => {
             value.put_text("condition", condition_word(it.condition.kind));
             value.put_text("attribute", it.condition.attribute.as_str());
-            value.put("item", item_value(alloc, it.item.as_ref()));
+            value.put("item", item_value(it.item.as_ref()));
         }
         Case::Branch(index) => value.put_number("branch", *index as usize),
         _ => {}
@@ -106,7 +106,7 @@ fn path_in(case: &Case) -> Option<&str> {
 }
 
 /// The value in which something is wrong; `null` if the case has none.
-fn value_in(alloc: Global, case: &Case) -> Result<Json, AllocError> {
+fn value_in(case: &Case) -> Result<Json, AllocError> {
     match case {
         Case::PicksNothing(it) => it.of.copy(),
         Case::CannotPlace(it) => it.of.copy(),

@@ -382,8 +382,8 @@ fn items_of(asked: &Asked<'_>, kept: &StepRecord, place: usize) -> Result<Json, 
         return Ok(Json::Null);
     };
     let mut items = Object::new(asked.alloc);
-    items.put("before", item_value(asked.alloc, around.before));
-    items.put("after", item_value(asked.alloc, around.after));
+    items.put("before", item_value(around.before));
+    items.put("after", item_value(around.after));
     items.done()
 }
 
