@@ -1,7 +1,7 @@
 // Calls of the table: what each was given and what it answered; and which held step keeps a next move back.
 use crate::explaining::table_of;
 use crate::items::current_item;
-use answer_parts::books::{Access, Fact, Frame, Kind, Outcome, StepRecord, located};
+use answer_parts::books::{Access, BookCalls, Fact, Frame, Kind, Outcome, StepRecord, located};
 use answer_parts::graph::{depends, record_at};
 use answer_parts::{
     Asked, Move, Object, frame_before, frame_of, items_around, move_of, shared_machine_of,
@@ -18,7 +18,12 @@ use step_names::{StepName, ThreadName};
 
 /// Adds what a call was given, and its answer or its error; `null` of another step. Takes the time of one turn, and time in the number of the
 /// key's accesses.
-pub fn put_call(asked: &Asked<'_>, row: &mut Object, kept: &StepRecord, place: usize) {
+pub fn put_call<B: BookCalls>(
+    asked: &Asked<'_, B>,
+    row: &mut Object,
+    kept: &StepRecord,
+    place: usize,
+) {
     if kept.fact.access.is_none() {
         row.put_null("call");
         put_answer(row, Ok(None));
@@ -47,7 +52,7 @@ fn put_answer(row: &mut Object, answer: Result<Option<Answer>, AllocError>) {
 }
 
 /// What a Task's state works on; `null` if that can't be told.
-fn input_of(asked: &Asked<'_>, kept: &StepRecord) -> Result<Json, AllocError> {
+fn input_of<B: BookCalls>(asked: &Asked<'_, B>, kept: &StepRecord) -> Result<Json, AllocError> {
     let Some(frame) = frame_before(kept) else {
         return Ok(Json::Null);
     };
@@ -65,8 +70,8 @@ fn input_of(asked: &Asked<'_>, kept: &StepRecord) -> Result<Json, AllocError> {
 }
 
 /// What a call answered, by the item that it met.
-fn answer_of(
-    asked: &Asked<'_>,
+fn answer_of<B: BookCalls>(
+    asked: &Asked<'_, B>,
     kept: &StepRecord,
     place: usize,
 ) -> Result<Option<Answer>, AllocError> {
@@ -93,7 +98,7 @@ fn answered(alloc: Global, call: Call, met: Option<&Item>) -> Result<Option<Answ
 }
 
 /// The call that a frame's turn makes, if it makes one.
-fn call_of(asked: &Asked<'_>, frame: &Frame) -> Result<Option<Call>, AllocError> {
+fn call_of<B: BookCalls>(asked: &Asked<'_, B>, frame: &Frame) -> Result<Option<Call>, AllocError> {
     let Some(machine) = shared_machine_of(asked, &frame.level) else {
         return Ok(None);
     };
@@ -113,7 +118,10 @@ fn call_of(asked: &Asked<'_>, frame: &Frame) -> Result<Option<Call>, AllocError>
 }
 
 /// The key of a call; none if the call is of another table, or has no key.
-pub(crate) fn key_of_call(asked: &Asked<'_>, call: &Call) -> Result<Option<Key>, AllocError> {
+pub(crate) fn key_of_call<B: BookCalls>(
+    asked: &Asked<'_, B>,
+    call: &Call,
+) -> Result<Option<Key>, AllocError> {
     let table = table_of(asked)?;
     let key = table.key(call);
     drop(table);
@@ -127,7 +135,10 @@ pub(crate) fn key_of_call(asked: &Asked<'_>, call: &Call) -> Result<Option<Key>,
 
 /// The earliest step that is left of a hold and on which an execution's next move would depend directly; `null` if there is none.
 /// Takes the time of the hold's plan.
-pub fn held_step(asked: &Asked<'_>, exec: &ThreadName) -> Result<Json, AllocError> {
+pub fn held_step<B: BookCalls>(
+    asked: &Asked<'_, B>,
+    exec: &ThreadName,
+) -> Result<Json, AllocError> {
     let Some(held) = asked.book.held() else {
         return Ok(Json::Null);
     };
@@ -145,7 +156,11 @@ pub fn held_step(asked: &Asked<'_>, exec: &ThreadName) -> Result<Json, AllocErro
 }
 
 /// The earliest step of the plan of the one at a place on which a next move would depend.
-fn first_held(asked: &Asked<'_>, at: usize, next: &Fact) -> Result<Json, AllocError> {
+fn first_held<B: BookCalls>(
+    asked: &Asked<'_, B>,
+    at: usize,
+    next: &Fact,
+) -> Result<Json, AllocError> {
     let records = asked.book.history();
     if at >= records.len() {
         return Ok(Json::Null);
@@ -156,7 +171,11 @@ fn first_held(asked: &Asked<'_>, at: usize, next: &Fact) -> Result<Json, AllocEr
     step
 }
 
-fn first_needed(asked: &Asked<'_>, plan: &[usize], next: &Fact) -> Result<Json, AllocError> {
+fn first_needed<B: BookCalls>(
+    asked: &Asked<'_, B>,
+    plan: &[usize],
+    next: &Fact,
+) -> Result<Json, AllocError> {
     // (the plan has the latest first)
     for place in plan.iter().rev() {
         let Some(kept) = record_at(asked.book.history(), *place) else {
@@ -170,7 +189,10 @@ fn first_needed(asked: &Asked<'_>, plan: &[usize], next: &Fact) -> Result<Json, 
 }
 
 /// What is known of an execution's next move; nothing if it has none.
-fn next_fact(asked: &Asked<'_>, exec: &ThreadName) -> Result<Option<Fact>, AllocError> {
+fn next_fact<B: BookCalls>(
+    asked: &Asked<'_, B>,
+    exec: &ThreadName,
+) -> Result<Option<Fact>, AllocError> {
     let Some(frame) = frame_of(asked.book, exec) else {
         return Ok(None);
     };
@@ -205,14 +227,17 @@ fn fact_of(
 }
 
 /// What a frame's next step would access, if it is a call of an item.
-fn next_access(asked: &Asked<'_>, frame: &Frame) -> Result<Option<Access>, AllocError> {
+fn next_access<B: BookCalls>(
+    asked: &Asked<'_, B>,
+    frame: &Frame,
+) -> Result<Option<Access>, AllocError> {
     match call_of(asked, frame)? {
         Some(call) => access_of(asked, call),
         None => Ok(None),
     }
 }
 
-fn access_of(asked: &Asked<'_>, call: Call) -> Result<Option<Access>, AllocError> {
+fn access_of<B: BookCalls>(asked: &Asked<'_, B>, call: Call) -> Result<Option<Access>, AllocError> {
     match key_of_call(asked, &call) {
         Ok(Some(key)) => access_to(asked, call, key),
         Ok(None) => {
@@ -226,7 +251,11 @@ fn access_of(asked: &Asked<'_>, call: Call) -> Result<Option<Access>, AllocError
     }
 }
 
-fn access_to(asked: &Asked<'_>, call: Call, key: Key) -> Result<Option<Access>, AllocError> {
+fn access_to<B: BookCalls>(
+    asked: &Asked<'_, B>,
+    call: Call,
+    key: Key,
+) -> Result<Option<Access>, AllocError> {
     match mode_of(asked, call, &key) {
         Ok(mode) => Ok(Some(Access { key, mode })),
         Err(AllocError) => {
@@ -237,7 +266,11 @@ fn access_to(asked: &Asked<'_>, call: Call, key: Key) -> Result<Option<Access>, 
 }
 
 /// How a call would access the item of its key.
-fn mode_of(asked: &Asked<'_>, call: Call, key: &Key) -> Result<AccessMode, AllocError> {
+fn mode_of<B: BookCalls>(
+    asked: &Asked<'_, B>,
+    call: Call,
+    key: &Key,
+) -> Result<AccessMode, AllocError> {
     let Ok(met) = current_item(asked, key) else {
         drop(call);
         return Err(AllocError);

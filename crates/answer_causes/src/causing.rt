@@ -1,5 +1,5 @@
 // On which steps one depends, and what a rollback takes back.
-use answer_parts::books::{Kind, Saved, StepRecords};
+use answer_parts::books::{BookCalls, Kind, Saved, StepRecords};
 use answer_parts::graph::{
     Cause, causes, plan_reasons, reason_at, reason_word, record_at, take_reason, thread_above, why,
 };
@@ -15,8 +15,8 @@ use step_names::StepName;
 
 /// The steps on which the one at a place depends, the latest first; of these alone those that wrote an item, and the starts, if so
 /// asked. Takes the time of [`causes`], and for each row that of [`put_step_row`].
-pub fn causes_of(
-    asked: &Asked<'_>,
+pub fn causes_of<B: BookCalls>(
+    asked: &Asked<'_, B>,
     step: &StepName,
     at: usize,
     writes: bool,
@@ -27,7 +27,11 @@ pub fn causes_of(
     answer.done()
 }
 
-fn causes_at(asked: &Asked<'_>, at: usize, writes: bool) -> Result<Json, AllocError> {
+fn causes_at<B: BookCalls>(
+    asked: &Asked<'_, B>,
+    at: usize,
+    writes: bool,
+) -> Result<Json, AllocError> {
     let records = asked.book.history();
     if at >= records.len() {
         return Rows::new(asked.alloc).done();
@@ -38,7 +42,11 @@ fn causes_at(asked: &Asked<'_>, at: usize, writes: bool) -> Result<Json, AllocEr
     rows
 }
 
-fn cause_rows(asked: &Asked<'_>, found: &[Cause], writes: bool) -> Result<Json, AllocError> {
+fn cause_rows<B: BookCalls>(
+    asked: &Asked<'_, B>,
+    found: &[Cause],
+    writes: bool,
+) -> Result<Json, AllocError> {
     let mut rows = Rows::new(asked.alloc);
     for cause in found {
         if !writes || is_source(asked.book.history(), cause.place) {
@@ -59,7 +67,7 @@ fn is_source(records: &StepRecords, place: usize) -> bool {
     }
 }
 
-fn cause_row(asked: &Asked<'_>, cause: Cause) -> Result<Json, AllocError> {
+fn cause_row<B: BookCalls>(asked: &Asked<'_, B>, cause: Cause) -> Result<Json, AllocError> {
     let records = asked.book.history();
     let mut row = Object::new(asked.alloc);
     if let Some(kept) = record_at(records, cause.place) {
@@ -76,14 +84,18 @@ fn cause_row(asked: &Asked<'_>, cause: Cause) -> Result<Json, AllocError> {
 
 /// What a rollback of the step at a place takes back, with a head: how many steps of which executions, and the items that change. Takes the
 /// time of the plan and of [`plan_reasons`], and for each row that of [`put_step_row`].
-pub fn plan_of(asked: &Asked<'_>, step: &StepName, at: usize) -> Result<Json, AllocError> {
+pub fn plan_of<B: BookCalls>(
+    asked: &Asked<'_, B>,
+    step: &StepName,
+    at: usize,
+) -> Result<Json, AllocError> {
     let mut answer = asked.answer();
     answer.put_step("step", step);
     put_plan_at(asked, &mut answer, at);
     answer.done()
 }
 
-fn put_plan_at(asked: &Asked<'_>, answer: &mut Object, at: usize) {
+fn put_plan_at<B: BookCalls>(asked: &Asked<'_, B>, answer: &mut Object, at: usize) {
     let records = asked.book.history();
     if at >= records.len() {
         put_plan(asked, answer, &[]);
@@ -98,14 +110,14 @@ fn put_plan_at(asked: &Asked<'_>, answer: &mut Object, at: usize) {
     }
 }
 
-fn put_plan(asked: &Asked<'_>, answer: &mut Object, plan: &[usize]) {
+fn put_plan<B: BookCalls>(asked: &Asked<'_, B>, answer: &mut Object, plan: &[usize]) {
     answer.put_number("count", plan.len());
     answer.put("steps", steps_in(asked, plan));
     answer.put("executions", executions_in(asked, plan));
     answer.put("items", items_in(asked, plan));
 }
 
-fn steps_in(asked: &Asked<'_>, plan: &[usize]) -> Result<Json, AllocError> {
+fn steps_in<B: BookCalls>(asked: &Asked<'_, B>, plan: &[usize]) -> Result<Json, AllocError> {
     // the latest comes last here, and first in the plan
     let mut reasons = plan_reasons(asked.alloc, asked.book.history(), plan)?;
     let rows = planned_rows(asked, plan, &mut reasons);
@@ -113,8 +125,8 @@ fn steps_in(asked: &Asked<'_>, plan: &[usize]) -> Result<Json, AllocError> {
     rows
 }
 
-fn planned_rows(
-    asked: &Asked<'_>,
+fn planned_rows<B: BookCalls>(
+    asked: &Asked<'_, B>,
     plan: &[usize],
     reasons: &mut Vec<Cause>,
 ) -> Result<Json, AllocError> {
@@ -127,7 +139,11 @@ fn planned_rows(
 }
 
 /// A step of a plan, with the latest step of the plan on which it depends, and why.
-fn planned_row(asked: &Asked<'_>, place: usize, reason: Option<Cause>) -> Result<Json, AllocError> {
+fn planned_row<B: BookCalls>(
+    asked: &Asked<'_, B>,
+    place: usize,
+    reason: Option<Cause>,
+) -> Result<Json, AllocError> {
     let mut row = Object::new(asked.alloc);
     if let Some(kept) = record_at(asked.book.history(), place) {
         put_step_row(asked, &mut row, kept, place);
@@ -151,7 +167,7 @@ fn put_cause(records: &StepRecords, row: &mut Object, reason: Option<Cause>) {
     }
 }
 
-fn executions_in(asked: &Asked<'_>, plan: &[usize]) -> Result<Json, AllocError> {
+fn executions_in<B: BookCalls>(asked: &Asked<'_, B>, plan: &[usize]) -> Result<Json, AllocError> {
     let mut executions = ThreadNames::new(asked.alloc);
     for place in plan {
         if let Some(kept) = record_at(asked.book.history(), *place) {
@@ -165,7 +181,7 @@ fn executions_in(asked: &Asked<'_>, plan: &[usize]) -> Result<Json, AllocError> 
 type Changed<'a> = BTreeMap<Key, (usize, Option<&'a Item>)>;
 
 /// The items that a plan's writes change: each as it is now, and as it is then.
-fn items_in(asked: &Asked<'_>, plan: &[usize]) -> Result<Json, AllocError> {
+fn items_in<B: BookCalls>(asked: &Asked<'_, B>, plan: &[usize]) -> Result<Json, AllocError> {
     let mut items = BTreeMap::new(asked.alloc);
     let changes = match note_writes(asked, plan, &mut items) {
         Ok(()) => changes_in(asked, &items),
@@ -176,8 +192,8 @@ fn items_in(asked: &Asked<'_>, plan: &[usize]) -> Result<Json, AllocError> {
 }
 
 /// Notes of each write the item that it gives back. The earliest write of a key comes last, and decides.
-fn note_writes<'a>(
-    asked: &Asked<'a>,
+fn note_writes<'a, B: BookCalls>(
+    asked: &Asked<'a, B>,
     plan: &[usize],
     items: &mut Changed<'a>,
 ) -> Result<(), AllocError> {
@@ -194,7 +210,7 @@ fn note_writes<'a>(
     Ok(())
 }
 
-fn changes_in(asked: &Asked<'_>, items: &Changed<'_>) -> Result<Json, AllocError> {
+fn changes_in<B: BookCalls>(asked: &Asked<'_, B>, items: &Changed<'_>) -> Result<Json, AllocError> {
     let mut changes = Rows::new(asked.alloc);
     for (key, (place, then)) in items.iter() {
         let now = match record_at(asked.book.history(), *place) {
@@ -208,8 +224,8 @@ fn changes_in(asked: &Asked<'_>, items: &Changed<'_>) -> Result<Json, AllocError
     changes.done()
 }
 
-fn change_row(
-    asked: &Asked<'_>,
+fn change_row<B: BookCalls>(
+    asked: &Asked<'_, B>,
     key: &Key,
     now: Option<&Item>,
     then: Option<&Item>,
@@ -225,7 +241,11 @@ fn change_row(
 
 /// A shortest chain of direct dependences from one step to another; nothing if there is none. Takes the time of [`why`], and for
 /// each row that of [`put_step_row`].
-pub fn chain_of(asked: &Asked<'_>, from: usize, to: usize) -> Result<Option<Json>, AllocError> {
+pub fn chain_of<B: BookCalls>(
+    asked: &Asked<'_, B>,
+    from: usize,
+    to: usize,
+) -> Result<Option<Json>, AllocError> {
     let Some(chain) = why(asked.alloc, asked.book.history(), from, to)? else {
         return Ok(None);
     };
@@ -235,7 +255,10 @@ pub fn chain_of(asked: &Asked<'_>, from: usize, to: usize) -> Result<Option<Json
     Ok(Some(answer.done()?))
 }
 
-fn chain_rows(asked: &Asked<'_>, chain: &VecDeque<usize>) -> Result<Json, AllocError> {
+fn chain_rows<B: BookCalls>(
+    asked: &Asked<'_, B>,
+    chain: &VecDeque<usize>,
+) -> Result<Json, AllocError> {
     let mut rows = Rows::new(asked.alloc);
     let mut before = None;
     for place in chain.iter() {
@@ -246,7 +269,11 @@ fn chain_rows(asked: &Asked<'_>, chain: &VecDeque<usize>) -> Result<Json, AllocE
 }
 
 /// A step of a chain, and why it depends on the one before.
-fn chained_row(asked: &Asked<'_>, before: Option<usize>, place: usize) -> Result<Json, AllocError> {
+fn chained_row<B: BookCalls>(
+    asked: &Asked<'_, B>,
+    before: Option<usize>,
+    place: usize,
+) -> Result<Json, AllocError> {
     let records = asked.book.history();
     let mut row = Object::new(asked.alloc);
     if let Some(kept) = record_at(records, place) {

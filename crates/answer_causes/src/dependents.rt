@@ -1,5 +1,5 @@
 // Which later steps depend directly on one.
-use answer_parts::books::StepRecords;
+use answer_parts::books::{BookCalls, StepRecords};
 use answer_parts::graph::{Reason, reason_at, record_at};
 use answer_parts::{Asked, Rows, near_of, reason_row, record_in};
 use json_tree::Json;
@@ -10,7 +10,7 @@ type Later = BTreeMap<usize, ()>;
 
 /// The later steps that depend directly on the one at a place, as a picture has them: a list of names, each with the reason. Takes time in the
 /// number of the later steps of its execution and of the later accesses of its key, and for each of them what [`near_of`] takes.
-pub fn dependents_of(asked: &Asked<'_>, place: usize) -> Result<Json, AllocError> {
+pub fn dependents_of<B: BookCalls>(asked: &Asked<'_, B>, place: usize) -> Result<Json, AllocError> {
     let mut later = BTreeMap::new(asked.alloc);
     let rows = match add_later(asked, place, &mut later) {
         Ok(()) => dependent_rows(asked, place, &later),
@@ -20,7 +20,11 @@ pub fn dependents_of(asked: &Asked<'_>, place: usize) -> Result<Json, AllocError
     rows
 }
 
-fn dependent_rows(asked: &Asked<'_>, place: usize, later: &Later) -> Result<Json, AllocError> {
+fn dependent_rows<B: BookCalls>(
+    asked: &Asked<'_, B>,
+    place: usize,
+    later: &Later,
+) -> Result<Json, AllocError> {
     let mut rows = Rows::new(asked.alloc);
     if push_dependents(asked, place, later, &mut rows).is_err() {
         rows.refuse();
@@ -28,8 +32,8 @@ fn dependent_rows(asked: &Asked<'_>, place: usize, later: &Later) -> Result<Json
     rows.done()
 }
 
-fn push_dependents(
-    asked: &Asked<'_>,
+fn push_dependents<B: BookCalls>(
+    asked: &Asked<'_, B>,
     place: usize,
     later: &Later,
     rows: &mut Rows,
@@ -51,7 +55,11 @@ fn push_dependents(
 }
 
 /// Whether a place is among the nearest on which the step at a later one depends.
-fn is_near(asked: &Asked<'_>, place: usize, later: usize) -> Result<bool, AllocError> {
+fn is_near<B: BookCalls>(
+    asked: &Asked<'_, B>,
+    place: usize,
+    later: usize,
+) -> Result<bool, AllocError> {
     let near = near_of(asked, later)?;
     let is_among = has_place(near.as_slice(), place);
     drop(near);
@@ -68,7 +76,11 @@ fn has_place(near: &[(usize, Reason)], place: usize) -> bool {
 }
 
 /// Adds the later steps that may depend on the one at a place: those of its execution, and those that accessed its key.
-fn add_later(asked: &Asked<'_>, place: usize, later: &mut Later) -> Result<(), AllocError> {
+fn add_later<B: BookCalls>(
+    asked: &Asked<'_, B>,
+    place: usize,
+    later: &mut Later,
+) -> Result<(), AllocError> {
     let records = asked.book.history();
     let Some(kept) = record_at(records, place) else {
         return Ok(());
@@ -103,8 +115,8 @@ fn add_places(later: &mut Later, places: &[usize], place: usize) -> Result<(), A
 
 /// Of a branch's last step, the first move behind the first barrier that stands for the branch: of those that waited for it, the one that waited
 /// for the fewest branches.
-fn first_behind(
-    asked: &Asked<'_>,
+fn first_behind<B: BookCalls>(
+    asked: &Asked<'_, B>,
     place: usize,
     later: &Later,
 ) -> Result<Option<usize>, AllocError> {

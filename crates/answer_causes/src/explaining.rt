@@ -2,7 +2,7 @@
 use crate::calls::key_of_call;
 use crate::items::current_item;
 use crate::reasons::why_value;
-use answer_parts::books::{Fault, Frame, Outcome, Phase, Prepared, Saved, StepRecord};
+use answer_parts::books::{BookCalls, Fault, Frame, Outcome, Phase, Prepared, Saved, StepRecord};
 use answer_parts::graph::{branch_of, closed_threads};
 use answer_parts::{
     Asked, Move, Rows, closed_frame, frame_of, items_around, move_of, record_of, shared_machine_of,
@@ -16,7 +16,10 @@ use step_names::{StepName, ThreadName};
 
 /// Why a thread failed, or why its next move would; `null` if neither. Nothing if there is no such thread, and none that a join or a
 /// terminate took away. Takes the time of one turn, of a join that of its branches, and copies of what is told.
-pub fn explained(asked: &Asked<'_>, thread: &ThreadName) -> Result<Option<Json>, AllocError> {
+pub fn explained<B: BookCalls>(
+    asked: &Asked<'_, B>,
+    thread: &ThreadName,
+) -> Result<Option<Json>, AllocError> {
     let frame = match frame_of(asked.book, thread) {
         Some(frame) => frame,
         None => match closed_frame(asked, thread)? {
@@ -29,7 +32,11 @@ pub fn explained(asked: &Asked<'_>, thread: &ThreadName) -> Result<Option<Json>,
     Ok(Some(answer.done()?))
 }
 
-fn why_of(asked: &Asked<'_>, thread: &ThreadName, frame: &Frame) -> Result<Json, AllocError> {
+fn why_of<B: BookCalls>(
+    asked: &Asked<'_, B>,
+    thread: &ThreadName,
+    frame: &Frame,
+) -> Result<Json, AllocError> {
     match &frame.phase {
         Phase::Done(_) => Ok(Json::Null),
         Phase::Failed(_) => of_last_step(asked, thread, frame),
@@ -41,7 +48,11 @@ fn why_of(asked: &Asked<'_>, thread: &ThreadName, frame: &Frame) -> Result<Json,
 // ---- the step that failed
 
 /// Why the last step of a thread failed, if that remains.
-fn of_last_step(asked: &Asked<'_>, thread: &ThreadName, frame: &Frame) -> Result<Json, AllocError> {
+fn of_last_step<B: BookCalls>(
+    asked: &Asked<'_, B>,
+    thread: &ThreadName,
+    frame: &Frame,
+) -> Result<Json, AllocError> {
     let step = StepName {
         thread: thread.copy()?,
         no: frame.count,
@@ -54,7 +65,10 @@ fn of_last_step(asked: &Asked<'_>, thread: &ThreadName, frame: &Frame) -> Result
     why
 }
 
-fn why_at(asked: &Asked<'_>, kept: &StepRecord) -> Result<Option<Why>, AllocError> {
+fn why_at<B: BookCalls>(
+    asked: &Asked<'_, B>,
+    kept: &StepRecord,
+) -> Result<Option<Why>, AllocError> {
     match &kept.saved {
         Saved::Framed(before) => turn_of(asked, before, None),
         Saved::Called { frame: before, .. } => turn_of(asked, before, met_by(asked, kept)?),
@@ -67,7 +81,10 @@ fn why_at(asked: &Asked<'_>, kept: &StepRecord) -> Result<Option<Why>, AllocErro
 }
 
 /// The item that a call met.
-fn met_by<'a>(asked: &Asked<'a>, kept: &StepRecord) -> Result<Option<&'a Item>, AllocError> {
+fn met_by<'a, B: BookCalls>(
+    asked: &Asked<'a, B>,
+    kept: &StepRecord,
+) -> Result<Option<&'a Item>, AllocError> {
     let Some(place) = asked.book.history().find(&kept.fact.name) else {
         return Ok(None);
     };
@@ -78,8 +95,8 @@ fn met_by<'a>(asked: &Asked<'a>, kept: &StepRecord) -> Result<Option<&'a Item>, 
 }
 
 /// Why a join or a terminate failed, by the branches that it took away.
-fn closing_of(
-    asked: &Asked<'_>,
+fn closing_of<B: BookCalls>(
+    asked: &Asked<'_, B>,
     kept: &StepRecord,
     before: &Frame,
 ) -> Result<Option<Why>, AllocError> {
@@ -104,8 +121,8 @@ fn closing_of(
 }
 
 /// The frames of a fork's branches, in the order of these, among those that a step took away.
-fn push_closed<'a>(
-    asked: &Asked<'_>,
+fn push_closed<'a, B: BookCalls>(
+    asked: &Asked<'_, B>,
     closing: &StepName,
     branches: u32,
     closed: &[(ThreadName, &'a Frame)],
@@ -139,7 +156,7 @@ fn frame_among<'a>(closed: &[(ThreadName, &'a Frame)], branch: ThreadName) -> Op
 // ---- the next move
 
 /// Why the next step of a frame that is ready would fail.
-fn of_next_step(asked: &Asked<'_>, frame: &Frame) -> Result<Json, AllocError> {
+fn of_next_step<B: BookCalls>(asked: &Asked<'_, B>, frame: &Frame) -> Result<Json, AllocError> {
     let Some(machine) = shared_machine_of(asked, &frame.level) else {
         return Ok(Json::Null);
     };
@@ -155,7 +172,10 @@ fn of_next_step(asked: &Asked<'_>, frame: &Frame) -> Result<Json, AllocError> {
 }
 
 /// The item now of the key that a prepared turn asks for.
-fn called_now<'a>(asked: &Asked<'a>, prepared: &Prepared) -> Result<Option<&'a Item>, AllocError> {
+fn called_now<'a, B: BookCalls>(
+    asked: &Asked<'a, B>,
+    prepared: &Prepared,
+) -> Result<Option<&'a Item>, AllocError> {
     let Outcome::Call(call) = prepared.outcome() else {
         return Ok(None);
     };
@@ -170,8 +190,8 @@ fn called_now<'a>(asked: &Asked<'a>, prepared: &Prepared) -> Result<Option<&'a I
 }
 
 /// Why the next join or terminate of a thread over branches would fail.
-fn of_next_closing(
-    asked: &Asked<'_>,
+fn of_next_closing<B: BookCalls>(
+    asked: &Asked<'_, B>,
     thread: &ThreadName,
     frame: &Frame,
     branches: u32,
@@ -190,8 +210,8 @@ fn of_next_closing(
 }
 
 /// The frames that a fork's branches have now.
-fn push_open<'a>(
-    asked: &Asked<'a>,
+fn push_open<'a, B: BookCalls>(
+    asked: &Asked<'a, B>,
     thread: &ThreadName,
     fork: u32,
     branches: u32,
@@ -208,7 +228,7 @@ fn push_open<'a>(
     Ok(())
 }
 
-fn frame_now<'a>(asked: &Asked<'a>, thread: ThreadName) -> Option<&'a Frame> {
+fn frame_now<'a, B: BookCalls>(asked: &Asked<'a, B>, thread: ThreadName) -> Option<&'a Frame> {
     let frame = frame_of(asked.book, &thread);
     drop(thread);
     frame
@@ -217,8 +237,8 @@ fn frame_now<'a>(asked: &Asked<'a>, thread: ThreadName) -> Option<&'a Frame> {
 // ---- turns and closings
 
 /// Why the turn of a frame fails if its call meets this item.
-fn turn_of(
-    asked: &Asked<'_>,
+fn turn_of<B: BookCalls>(
+    asked: &Asked<'_, B>,
     frame: &Frame,
     item: Option<&Item>,
 ) -> Result<Option<Why>, AllocError> {
@@ -235,8 +255,8 @@ fn turn_of(
     }
 }
 
-fn explain_prepared(
-    asked: &Asked<'_>,
+fn explain_prepared<B: BookCalls>(
+    asked: &Asked<'_, B>,
     prepared: &Prepared,
     item: Option<&Item>,
 ) -> Result<Option<Why>, AllocError> {
@@ -254,7 +274,7 @@ fn explain_prepared(
 }
 
 /// The book's table without its items.
-pub(crate) fn table_of(asked: &Asked<'_>) -> Result<ItemStore, AllocError> {
+pub(crate) fn table_of<B: BookCalls>(asked: &Asked<'_, B>) -> Result<ItemStore, AllocError> {
     let (begin, _) = asked.book.entries();
     let table = begin.table.copy()?;
     let Ok(schema) = begin.schema.copy() else {
@@ -265,8 +285,8 @@ pub(crate) fn table_of(asked: &Asked<'_>) -> Result<ItemStore, AllocError> {
 }
 
 /// Why the end of a fork with these branches fails: by the error of the first branch that failed, or by what their outputs come to.
-fn closed_by(
-    asked: &Asked<'_>,
+fn closed_by<B: BookCalls>(
+    asked: &Asked<'_, B>,
     frame: &Frame,
     branches: &[&Frame],
 ) -> Result<Option<Why>, AllocError> {
@@ -300,7 +320,10 @@ fn first_failed<'a>(branches: &[&'a Frame]) -> Option<(u32, &'a Fault)> {
     None
 }
 
-fn outputs_of(asked: &Asked<'_>, branches: &[&Frame]) -> Result<JsonList, AllocError> {
+fn outputs_of<B: BookCalls>(
+    asked: &Asked<'_, B>,
+    branches: &[&Frame],
+) -> Result<JsonList, AllocError> {
     let mut outputs = Rows::new(asked.alloc);
     for branch in branches {
         if let Phase::Done(output) = &branch.phase {

@@ -1,5 +1,5 @@
 // Items: who accessed each, and who wrote it last.
-use answer_parts::books::StepRecord;
+use answer_parts::books::{BookCalls, StepRecord};
 use answer_parts::graph::record_at;
 use answer_parts::{
     Asked, Object, Page, Rows, access_word, before_access, item_now, item_value, key_value,
@@ -14,8 +14,8 @@ use step_names::StepName;
 
 /// The steps that accessed a key, in order, with the item before and after each, and the item now; nothing if there is no such item
 /// and no step accessed it. Takes time in the number of the accesses, and without any in that of the items.
-pub fn item_of(
-    asked: &Asked<'_>,
+pub fn item_of<B: BookCalls>(
+    asked: &Asked<'_, B>,
     key: &Key,
     page: &Page<StepName>,
 ) -> Result<Option<Json>, AllocError> {
@@ -25,8 +25,8 @@ pub fn item_of(
     answer
 }
 
-fn item_with(
-    asked: &Asked<'_>,
+fn item_with<B: BookCalls>(
+    asked: &Asked<'_, B>,
     key: &Key,
     page: &Page<StepName>,
     accesses: &[usize],
@@ -46,8 +46,8 @@ fn item_with(
 }
 
 /// The accesses of a page, and whether more follow.
-fn push_accesses(
-    asked: &Asked<'_>,
+fn push_accesses<B: BookCalls>(
+    asked: &Asked<'_, B>,
     page: &Page<StepName>,
     accesses: &[usize],
     now: Option<&Item>,
@@ -59,8 +59,8 @@ fn push_accesses(
     Ok(more)
 }
 
-fn push_with(
-    asked: &Asked<'_>,
+fn push_with<B: BookCalls>(
+    asked: &Asked<'_, B>,
     page: &Page<StepName>,
     accesses: &[usize],
     afters: &mut Vec<Option<&Item>>,
@@ -84,8 +84,8 @@ fn push_with(
 }
 
 /// The item after each access of a key, the last access first: what the next write replaced, or the item now.
-fn afters_of<'a>(
-    asked: &Asked<'a>,
+fn afters_of<'a, B: BookCalls>(
+    asked: &Asked<'a, B>,
     accesses: &[usize],
     now: Option<&'a Item>,
 ) -> Result<Vec<Option<&'a Item>>, AllocError> {
@@ -102,8 +102,8 @@ fn afters_of<'a>(
 }
 
 /// A step that accessed a key, and the item before and after it.
-fn access_row(
-    asked: &Asked<'_>,
+fn access_row<B: BookCalls>(
+    asked: &Asked<'_, B>,
     kept: &StepRecord,
     after: Option<&Item>,
 ) -> Result<Json, AllocError> {
@@ -118,7 +118,7 @@ fn access_row(
 }
 
 /// The first place behind the step after which the rows of a page begin.
-fn first_behind(asked: &Asked<'_>, page: &Page<StepName>) -> usize {
+fn first_behind<B: BookCalls>(asked: &Asked<'_, B>, page: &Page<StepName>) -> usize {
     match &page.after {
         Some(after) => match asked.book.history().find(after) {
             Some(place) => place.saturating_add(1),
@@ -129,7 +129,11 @@ fn first_behind(asked: &Asked<'_>, page: &Page<StepName>) -> usize {
 }
 
 /// The item of a key now. If no remaining step accessed it, the items are gone through.
-fn current<'a>(asked: &Asked<'a>, key: &Key, accesses: &[usize]) -> Option<&'a Item> {
+fn current<'a, B: BookCalls>(
+    asked: &Asked<'a, B>,
+    key: &Key,
+    accesses: &[usize],
+) -> Option<&'a Item> {
     if let Some(place) = accesses.first() {
         return item_now(asked, record_at(asked.book.history(), *place)?);
     }
@@ -150,8 +154,8 @@ fn has_key(schema: &KeySchema, item: &Item, key: &Key) -> bool {
 }
 
 /// The item of a key now.
-pub(crate) fn current_item<'a>(
-    asked: &Asked<'a>,
+pub(crate) fn current_item<'a, B: BookCalls>(
+    asked: &Asked<'a, B>,
     key: &Key,
 ) -> Result<Option<&'a Item>, AllocError> {
     let accesses = asked.book.history().accesses(asked.alloc, key)?;
@@ -162,7 +166,7 @@ pub(crate) fn current_item<'a>(
 
 /// The items in the order of their keys, each with the step that wrote it last, if that remains. Takes time in the number of
 /// the items, and for each that is told in that of its accesses.
-pub fn items_of(asked: &Asked<'_>, page: &Page<Key>) -> Result<Json, AllocError> {
+pub fn items_of<B: BookCalls>(asked: &Asked<'_, B>, page: &Page<Key>) -> Result<Json, AllocError> {
     let mut rows = Rows::new(asked.alloc);
     let more = push_items(asked, page, &mut rows);
     let mut answer = asked.answer();
@@ -172,7 +176,7 @@ pub fn items_of(asked: &Asked<'_>, page: &Page<Key>) -> Result<Json, AllocError>
 }
 
 /// The items of a page, and whether more follow.
-fn push_items(asked: &Asked<'_>, page: &Page<Key>, rows: &mut Rows) -> bool {
+fn push_items<B: BookCalls>(asked: &Asked<'_, B>, page: &Page<Key>, rows: &mut Rows) -> bool {
     let (begin, _) = asked.book.entries();
     for item in asked.book.items() {
         let Ok(key) = key_of(&begin.schema, item) else {
@@ -186,8 +190,8 @@ fn push_items(asked: &Asked<'_>, page: &Page<Key>, rows: &mut Rows) -> bool {
 }
 
 /// Adds an item, if it is in the page. Whether the page is full before it.
-fn is_left_out(
-    asked: &Asked<'_>,
+fn is_left_out<B: BookCalls>(
+    asked: &Asked<'_, B>,
     page: &Page<Key>,
     rows: &mut Rows,
     item: &Item,
@@ -205,7 +209,11 @@ fn is_left_out(
     is_left_out
 }
 
-fn item_row(asked: &Asked<'_>, item: &Item, key: &Key) -> Result<Json, AllocError> {
+fn item_row<B: BookCalls>(
+    asked: &Asked<'_, B>,
+    item: &Item,
+    key: &Key,
+) -> Result<Json, AllocError> {
     let mut row = Object::new(asked.alloc);
     row.put("key", key_value(asked, key));
     row.put("item", item_value(Some(item)));
@@ -222,14 +230,14 @@ fn is_up_to(key: &Key, after: &Option<Key>) -> bool {
 }
 
 /// The step that wrote a key last; `null` if it was settled, or if the table began with the item.
-fn writer_of(asked: &Asked<'_>, key: &Key) -> Result<Json, AllocError> {
+fn writer_of<B: BookCalls>(asked: &Asked<'_, B>, key: &Key) -> Result<Json, AllocError> {
     let accesses = asked.book.history().accesses(asked.alloc, key)?;
     let writer = last_writer(asked, accesses.as_slice());
     drop(accesses);
     writer
 }
 
-fn last_writer(asked: &Asked<'_>, accesses: &[usize]) -> Result<Json, AllocError> {
+fn last_writer<B: BookCalls>(asked: &Asked<'_, B>, accesses: &[usize]) -> Result<Json, AllocError> {
     for place in accesses.iter().rev() {
         let Some(kept) = record_at(asked.book.history(), *place) else {
             continue;

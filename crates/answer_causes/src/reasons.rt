@@ -1,4 +1,5 @@
 // What is wrong, as a value.
+use answer_parts::books::BookCalls;
 use answer_parts::{Asked, Object, Rows, item_value, whole};
 use attr_values::{ItemFault, KeyType, write_item};
 use explain::{Case, Detail, Flaw, Why};
@@ -9,8 +10,8 @@ use std::alloc::{AllocError, Global};
 use step_names::StepName;
 
 /// Why a turn fails: the state, the error and its cause, the step if it was taken, and what is wrong at which place; `null` if it doesn't.
-pub(crate) fn why_value(
-    asked: &Asked<'_>,
+pub(crate) fn why_value<B: BookCalls>(
+    asked: &Asked<'_, B>,
     why: Result<Option<Why>, AllocError>,
     step: Option<&StepName>,
 ) -> Result<Json, AllocError> {

@@ -1,8 +1,8 @@
 // What a question is asked of, and which part of a long answer.
 use crate::values::Object;
+use book_events::BookCalls;
 use json_tree::Json;
 use question_index::Index;
-use rollback_book::Book;
 use std::alloc::{AllocError, Global};
 use std::cmp::Ordering;
 use step_names::{StepName, ThreadName};
@@ -12,13 +12,13 @@ const VERSION: i64 = 1;
 
 /// A book, and what is known of its lines. The index has to be that of the book's own lines: answers say what it says.
 #[derive(Drop)]
-pub struct Asked<'a> {
+pub struct Asked<'a, B: BookCalls> {
     pub alloc: Global,
-    pub book: &'a Book,
+    pub book: &'a B,
     pub index: &'a Index,
 }
 
-impl Asked<'_> {
+impl<B: BookCalls> Asked<'_, B> {
     /// An answer without what was asked for: its form's version, and of how many lines it speaks. Takes memory for these two fields.
     pub fn answer(&self) -> Object {
         answer_after(self.alloc, self.index.lines())

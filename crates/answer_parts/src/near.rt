@@ -1,10 +1,10 @@
 // The nearest steps on which one depends: of each thread and each item the last.
 use crate::asked::Asked;
 use crate::steps::{closed_frame, place_of_step};
+use book_events::turns::Frame;
+use book_events::{BookCalls, Fact, Kind, StepRecord};
 use item_store::AccessMode;
 use question_index::frame_of;
-use rollback_book::turns::Frame;
-use rollback_book::{Fact, Kind, StepRecord};
 use std::alloc::AllocError;
 use std::collections::BTreeMap;
 use step_graph::{
@@ -17,7 +17,10 @@ use step_names::{StepName, ThreadName};
 /// the last branch that it waited for, so that it depends on the branches before, too; and of a call the last write of its key, of a write the
 /// reads since, too. Takes time in their number, and in that of the key's accesses; of a first move, if the branch for which it waited is
 /// settled, also in its Map's bound.
-pub fn near_of(asked: &Asked<'_>, place: usize) -> Result<Vec<(usize, Reason)>, AllocError> {
+pub fn near_of<B: BookCalls>(
+    asked: &Asked<'_, B>,
+    place: usize,
+) -> Result<Vec<(usize, Reason)>, AllocError> {
     let mut near = BTreeMap::new(asked.alloc);
     let found = match add_near(asked, &mut near, place) {
         Ok(()) => with_reasons(asked, &near, place),
@@ -30,8 +33,8 @@ pub fn near_of(asked: &Asked<'_>, place: usize) -> Result<Vec<(usize, Reason)>, 
 type Near = BTreeMap<usize, ()>;
 
 /// The places before one, each with the reason why the step at that one depends on it.
-fn with_reasons(
-    asked: &Asked<'_>,
+fn with_reasons<B: BookCalls>(
+    asked: &Asked<'_, B>,
     near: &Near,
     place: usize,
 ) -> Result<Vec<(usize, Reason)>, AllocError> {
@@ -46,7 +49,11 @@ fn with_reasons(
     Ok(found)
 }
 
-fn add_near(asked: &Asked<'_>, near: &mut Near, place: usize) -> Result<(), AllocError> {
+fn add_near<B: BookCalls>(
+    asked: &Asked<'_, B>,
+    near: &mut Near,
+    place: usize,
+) -> Result<(), AllocError> {
     let Some(kept) = record_at(asked.book.history(), place) else {
         return Ok(());
     };
@@ -59,7 +66,11 @@ fn add_near(asked: &Asked<'_>, near: &mut Near, place: usize) -> Result<(), Allo
 }
 
 /// The step before in the thread; of the first one that remains the fork above, or the start.
-fn add_before(asked: &Asked<'_>, near: &mut Near, name: &StepName) -> Result<(), AllocError> {
+fn add_before<B: BookCalls>(
+    asked: &Asked<'_, B>,
+    near: &mut Near,
+    name: &StepName,
+) -> Result<(), AllocError> {
     if let Some(before) = name.no.checked_sub(1) {
         if add_step(asked, near, name.thread.copy()?, before)? {
             return Ok(());
@@ -74,8 +85,8 @@ fn add_before(asked: &Asked<'_>, near: &mut Near, name: &StepName) -> Result<(),
 }
 
 /// Adds a thread's step of this number, if it remains. Whether it does.
-fn add_step(
-    asked: &Asked<'_>,
+fn add_step<B: BookCalls>(
+    asked: &Asked<'_, B>,
     near: &mut Near,
     thread: ThreadName,
     no: u32,
@@ -90,15 +101,19 @@ fn add_step(
 }
 
 /// The last step of each branch that a join or a terminate took away.
-fn add_closed(asked: &Asked<'_>, near: &mut Near, kept: &StepRecord) -> Result<(), AllocError> {
+fn add_closed<B: BookCalls>(
+    asked: &Asked<'_, B>,
+    near: &mut Near,
+    kept: &StepRecord,
+) -> Result<(), AllocError> {
     let closed = closed_threads(asked.alloc, kept)?;
     let added = add_last_steps(asked, near, closed.as_slice());
     drop(closed);
     added
 }
 
-fn add_last_steps(
-    asked: &Asked<'_>,
+fn add_last_steps<B: BookCalls>(
+    asked: &Asked<'_, B>,
     near: &mut Near,
     closed: &[(ThreadName, &Frame)],
 ) -> Result<(), AllocError> {
@@ -111,8 +126,8 @@ fn add_last_steps(
 /// The last step of the last branch for which a first move waited; if it is settled, that of the one before that, and so on. A branch further
 /// back than the bound isn't looked at: the last one waited for it. Nor is a step added that is needed for its item, too: the nearest of those are
 /// added as such.
-fn add_awaited(
-    asked: &Asked<'_>,
+fn add_awaited<B: BookCalls>(
+    asked: &Asked<'_, B>,
     near: &mut Near,
     fact: &Fact,
     place: usize,
@@ -136,8 +151,8 @@ fn add_awaited(
 }
 
 /// The place of the last step of a branch up to this one, of the last such step that remains.
-fn last_awaited(
-    asked: &Asked<'_>,
+fn last_awaited<B: BookCalls>(
+    asked: &Asked<'_, B>,
     over: &ThreadName,
     fork: u32,
     last: u32,
@@ -158,7 +173,10 @@ fn last_awaited(
 }
 
 /// The place of the last step of a branch that has ended, if it remains.
-fn last_of(asked: &Asked<'_>, thread: ThreadName) -> Result<Option<usize>, AllocError> {
+fn last_of<B: BookCalls>(
+    asked: &Asked<'_, B>,
+    thread: ThreadName,
+) -> Result<Option<usize>, AllocError> {
     match moves_of(asked, &thread) {
         Ok(Some(no)) => Ok(place_of_step(asked, thread, no)),
         Ok(None) => {
@@ -173,7 +191,10 @@ fn last_of(asked: &Asked<'_>, thread: ThreadName) -> Result<Option<usize>, Alloc
 }
 
 /// How many moves a thread has made, or had made when its branch went.
-fn moves_of(asked: &Asked<'_>, thread: &ThreadName) -> Result<Option<u32>, AllocError> {
+fn moves_of<B: BookCalls>(
+    asked: &Asked<'_, B>,
+    thread: &ThreadName,
+) -> Result<Option<u32>, AllocError> {
     if let Some(frame) = frame_of(asked.book, thread) {
         return Ok(Some(frame.count));
     }
@@ -184,8 +205,8 @@ fn moves_of(asked: &Asked<'_>, thread: &ThreadName) -> Result<Option<u32>, Alloc
 }
 
 /// The last write of a call's key before it; of a write the reads since, too.
-fn add_touched(
-    asked: &Asked<'_>,
+fn add_touched<B: BookCalls>(
+    asked: &Asked<'_, B>,
     near: &mut Near,
     fact: &Fact,
     place: usize,
@@ -199,8 +220,8 @@ fn add_touched(
     added
 }
 
-fn add_accesses(
-    asked: &Asked<'_>,
+fn add_accesses<B: BookCalls>(
+    asked: &Asked<'_, B>,
     near: &mut Near,
     fact: &Fact,
     own: AccessMode,

@@ -6,11 +6,11 @@ use crate::values::{Object, Rows, written_value};
 use asl_states::{Resource, Transition};
 use asl_tree::State;
 use attr_values::{Item, Key, KeyPart, write_item};
+use book_events::turns::{Frame, Phase, located};
+use book_events::{Access, BookCalls, Fact, Saved, StepRecord};
 use item_store::AccessMode;
 use json_tree::Json;
 use question_index::frame_of;
-use rollback_book::turns::{Frame, Phase, located};
-use rollback_book::{Access, Fact, Saved, StepRecord};
 use std::alloc::{AllocError, Global};
 use step_graph::{
     Reason, awaited_branch, branch_of, kind_word, reason_word, record_at, thread_above,
@@ -18,13 +18,20 @@ use step_graph::{
 use step_names::{StepName, ThreadName};
 
 /// The record of a step that remains; none of another step.
-pub fn record_of<'a>(asked: &Asked<'a>, step: &StepName) -> Option<&'a StepRecord> {
+pub fn record_of<'a, B: BookCalls>(
+    asked: &Asked<'a, B>,
+    step: &StepName,
+) -> Option<&'a StepRecord> {
     let records = asked.book.history();
     record_at(records, records.find(step)?)
 }
 
 /// The place of a thread's step of this number, if it remains.
-pub(crate) fn place_of_step(asked: &Asked<'_>, thread: ThreadName, no: u32) -> Option<usize> {
+pub(crate) fn place_of_step<B: BookCalls>(
+    asked: &Asked<'_, B>,
+    thread: ThreadName,
+    no: u32,
+) -> Option<usize> {
     let step = StepName { thread, no };
     let place = asked.book.history().find(&step);
     drop(step);
@@ -32,7 +39,11 @@ pub(crate) fn place_of_step(asked: &Asked<'_>, thread: ThreadName, no: u32) -> O
 }
 
 /// The record of a thread's step of this number, if it remains.
-pub fn record_in<'a>(asked: &Asked<'a>, thread: ThreadName, no: u32) -> Option<&'a StepRecord> {
+pub fn record_in<'a, B: BookCalls>(
+    asked: &Asked<'a, B>,
+    thread: ThreadName,
+    no: u32,
+) -> Option<&'a StepRecord> {
     record_at(asked.book.history(), place_of_step(asked, thread, no)?)
 }
 
@@ -51,8 +62,8 @@ pub fn frame_before(kept: &StepRecord) -> Option<&Frame> {
 
 /// The frame that a step's thread had after it: what its next step began with, or what it has now, or had when its branch went. Takes
 /// memory for the name, and what [`closed_frame`] takes.
-pub fn frame_after<'a>(
-    asked: &Asked<'a>,
+pub fn frame_after<'a, B: BookCalls>(
+    asked: &Asked<'a, B>,
     step: &StepName,
 ) -> Result<Option<&'a Frame>, AllocError> {
     if let Some(kept) = record_in(asked, step.thread.copy()?, step.no.saturating_add(1)) {
@@ -65,8 +76,8 @@ pub fn frame_after<'a>(
 }
 
 /// The frame that a branch had when a join or a terminate took it away. Takes a name for each fork above it, and time in their number.
-pub fn closed_frame<'a>(
-    asked: &Asked<'a>,
+pub fn closed_frame<'a, B: BookCalls>(
+    asked: &Asked<'a, B>,
     thread: &ThreadName,
 ) -> Result<Option<&'a Frame>, AllocError> {
     for depth in 0..thread.path().len() {
@@ -142,7 +153,7 @@ pub fn frame_value(alloc: Global, frame: Option<&Frame>) -> Result<Json, AllocEr
 // ---- keys and items
 
 /// A key: an object of its attributes, by the names that the table's schema has.
-pub fn key_value(asked: &Asked<'_>, key: &Key) -> Result<Json, AllocError> {
+pub fn key_value<B: BookCalls>(asked: &Asked<'_, B>, key: &Key) -> Result<Json, AllocError> {
     let (begin, _) = asked.book.entries();
     let mut value = Object::new(asked.alloc);
     value.put(
@@ -180,7 +191,11 @@ pub struct Around<'a> {
 }
 
 /// The item before and after the access at a place, of all accesses of its key in order; nothing if there is no such place.
-fn items_at<'a>(asked: &Asked<'a>, place: usize, accesses: &[usize]) -> Option<Around<'a>> {
+fn items_at<'a, B: BookCalls>(
+    asked: &Asked<'a, B>,
+    place: usize,
+    accesses: &[usize],
+) -> Option<Around<'a>> {
     let kept = record_at(asked.book.history(), place)?;
     let after = replaced_next(asked, place, accesses);
     let before = before_access(kept, after);
@@ -189,8 +204,8 @@ fn items_at<'a>(asked: &Asked<'a>, place: usize, accesses: &[usize]) -> Option<A
 
 /// The item before and after the step at a place, if it is a call. Takes memory for the places of its key's accesses, and time in their
 /// number.
-pub fn items_around<'a>(
-    asked: &Asked<'a>,
+pub fn items_around<'a, B: BookCalls>(
+    asked: &Asked<'a, B>,
     kept: &StepRecord,
     place: usize,
 ) -> Result<Option<Around<'a>>, AllocError> {
@@ -215,7 +230,11 @@ pub fn before_access<'a>(kept: &'a StepRecord, after: Option<&'a Item>) -> Optio
 }
 
 /// What the next write of the key replaced; if there is none, the item now.
-fn replaced_next<'a>(asked: &Asked<'a>, place: usize, accesses: &[usize]) -> Option<&'a Item> {
+fn replaced_next<'a, B: BookCalls>(
+    asked: &Asked<'a, B>,
+    place: usize,
+    accesses: &[usize],
+) -> Option<&'a Item> {
     let records = asked.book.history();
     for later in accesses {
         if *later <= place {
@@ -237,7 +256,7 @@ fn replaced_next<'a>(asked: &Asked<'a>, place: usize, accesses: &[usize]) -> Opt
 }
 
 /// The item now of the key that a step accessed; none of a step that is no call, too. Takes no search.
-pub fn item_now<'a>(asked: &Asked<'a>, kept: &StepRecord) -> Option<&'a Item> {
+pub fn item_now<'a, B: BookCalls>(asked: &Asked<'a, B>, kept: &StepRecord) -> Option<&'a Item> {
     match &kept.saved {
         Saved::Called { slot, .. } => asked.book.item_in(*slot),
         _ => None,
@@ -245,7 +264,11 @@ pub fn item_now<'a>(asked: &Asked<'a>, kept: &StepRecord) -> Option<&'a Item> {
 }
 
 /// How a step accessed a key: it read it, wrote it, or found that its condition doesn't hold.
-pub fn access_word(asked: &Asked<'_>, kept: &StepRecord, access: &Access) -> &'static str {
+pub fn access_word<B: BookCalls>(
+    asked: &Asked<'_, B>,
+    kept: &StepRecord,
+    access: &Access,
+) -> &'static str {
     match access.mode {
         AccessMode::Write => "write",
         AccessMode::Read => if is_get(asked, kept) {
@@ -257,7 +280,7 @@ pub fn access_word(asked: &Asked<'_>, kept: &StepRecord, access: &Access) -> &'s
 }
 
 /// Whether a step's state reads an item.
-fn is_get(asked: &Asked<'_>, kept: &StepRecord) -> bool {
+fn is_get<B: BookCalls>(asked: &Asked<'_, B>, kept: &StepRecord) -> bool {
     let Some(frame) = frame_before(kept) else {
         return false;
     };
@@ -274,7 +297,12 @@ fn is_get(asked: &Asked<'_>, kept: &StepRecord) -> bool {
 
 /// A step's name, thread, kind, state with its type, key with the kind of its access, for which branch it waited, and the nearest steps on which
 /// it depends. Takes what [`near_of`] takes.
-pub fn put_step_row(asked: &Asked<'_>, row: &mut Object, kept: &StepRecord, place: usize) {
+pub fn put_step_row<B: BookCalls>(
+    asked: &Asked<'_, B>,
+    row: &mut Object,
+    kept: &StepRecord,
+    place: usize,
+) {
     row.put_step("step", &kept.fact.name);
     row.put_thread("thread", &kept.fact.name.thread);
     row.put_text("kind", kind_word(kept.fact.kind));
@@ -326,7 +354,7 @@ fn waited_branch(alloc: Global, fact: &Fact) -> Result<Option<ThreadName>, Alloc
 }
 
 /// The steps on which the one at a place depends in a picture, each with its reason.
-fn put_on(asked: &Asked<'_>, row: &mut Object, place: usize) {
+fn put_on<B: BookCalls>(asked: &Asked<'_, B>, row: &mut Object, place: usize) {
     match near_of(asked, place) {
         Ok(near) => {
             row.put("on", near_rows(asked, near.as_slice()));
@@ -336,7 +364,10 @@ fn put_on(asked: &Asked<'_>, row: &mut Object, place: usize) {
     }
 }
 
-fn near_rows(asked: &Asked<'_>, near: &[(usize, Reason)]) -> Result<Json, AllocError> {
+fn near_rows<B: BookCalls>(
+    asked: &Asked<'_, B>,
+    near: &[(usize, Reason)],
+) -> Result<Json, AllocError> {
     let mut on = Rows::new(asked.alloc);
     for (earlier, reason) in near {
         if let Some(kept) = record_at(asked.book.history(), *earlier) {
@@ -356,8 +387,8 @@ pub fn reason_row(alloc: Global, step: &StepName, reason: Reason) -> Result<Json
 
 /// What a step went on to, by its thread's frames before and after it: a state, the same one again, the end, or branches; `null` if there is
 /// none after it.
-pub fn outcome_of(
-    asked: &Asked<'_>,
+pub fn outcome_of<B: BookCalls>(
+    asked: &Asked<'_, B>,
     before: Option<&Frame>,
     after: Option<&Frame>,
 ) -> Result<Json, AllocError> {
@@ -381,7 +412,12 @@ pub fn outcome_of(
 }
 
 /// The state to which a step went on, unless it was a retry.
-fn put_next(asked: &Asked<'_>, outcome: &mut Object, before: Option<&Frame>, after: &Frame) {
+fn put_next<B: BookCalls>(
+    asked: &Asked<'_, B>,
+    outcome: &mut Object,
+    before: Option<&Frame>,
+    after: &Frame,
+) {
     match before {
         Some(before) if used_between(before, after).is_some() => {
             outcome.put_text("to", "retry");
@@ -394,7 +430,7 @@ fn put_next(asked: &Asked<'_>, outcome: &mut Object, before: Option<&Frame>, aft
 }
 
 /// Whether a catcher led from one state to another: the first one's own transition leads elsewhere.
-fn is_caught(asked: &Asked<'_>, before: &Frame, after: &Frame) -> bool {
+fn is_caught<B: BookCalls>(asked: &Asked<'_, B>, before: &Frame, after: &Frame) -> bool {
     let Some(machine) = machine_of(asked.book, asked, &before.level) else {
         return false;
     };

@@ -3,10 +3,10 @@ use crate::asked::{Asked, Page};
 use crate::steps::record_in;
 use crate::values::{Object, Rows, ThreadNames, whole};
 use asl_tree::{Level, SharedMachine, State};
+use book_events::turns::{Frame, Phase, located};
+use book_events::{BookCalls, Entry, Saved};
 use json_tree::Json;
 use question_index::{Presence, frame_of, is_waiting};
-use rollback_book::turns::{Frame, Phase, located};
-use rollback_book::{Book, Entry, Saved};
 use std::alloc::AllocError;
 use step_graph::branch_of;
 use step_names::ThreadName;
@@ -38,7 +38,10 @@ impl Move {
 // ---- questions
 
 /// Each thread that has a move. Takes time in the number of all threads, and in the branches over which they wait.
-pub fn ready_threads(asked: &Asked<'_>, page: &Page<ThreadName>) -> Result<Json, AllocError> {
+pub fn ready_threads<B: BookCalls>(
+    asked: &Asked<'_, B>,
+    page: &Page<ThreadName>,
+) -> Result<Json, AllocError> {
     let mut rows = Rows::new(asked.alloc);
     let more = push_ready(asked, page, &mut rows);
     let mut answer = asked.answer();
@@ -48,8 +51,8 @@ pub fn ready_threads(asked: &Asked<'_>, page: &Page<ThreadName>) -> Result<Json,
 }
 
 /// The threads of a page that have a move, and whether more follow.
-fn push_ready(
-    asked: &Asked<'_>,
+fn push_ready<B: BookCalls>(
+    asked: &Asked<'_, B>,
     page: &Page<ThreadName>,
     rows: &mut Rows,
 ) -> Result<bool, AllocError> {
@@ -72,7 +75,10 @@ fn push_ready(
 }
 
 /// One thread, whatever it does; none if there is no such thread. Takes time in the branches over which it waits.
-pub fn one_thread(asked: &Asked<'_>, thread: &ThreadName) -> Result<Option<Json>, AllocError> {
+pub fn one_thread<B: BookCalls>(
+    asked: &Asked<'_, B>,
+    thread: &ThreadName,
+) -> Result<Option<Json>, AllocError> {
     let Some(presence) = asked.index.threads().get(thread) else {
         return Ok(None);
     };
@@ -88,8 +94,8 @@ pub fn one_thread(asked: &Asked<'_>, thread: &ThreadName) -> Result<Option<Json>
 }
 
 /// The threads that a line after one touched, and those that are gone since. Takes time in the number of threads that these lines touched.
-pub fn threads_since(
-    asked: &Asked<'_>,
+pub fn threads_since<B: BookCalls>(
+    asked: &Asked<'_, B>,
     since: usize,
     page: &Page<ThreadName>,
 ) -> Result<Json, AllocError> {
@@ -107,7 +113,12 @@ pub fn threads_since(
 }
 
 /// The threads that a line after one touched: those that are here, and those that are gone.
-fn sort_touched(asked: &Asked<'_>, since: usize, here: &mut ThreadNames, gone: &mut ThreadNames) {
+fn sort_touched<B: BookCalls>(
+    asked: &Asked<'_, B>,
+    since: usize,
+    here: &mut ThreadNames,
+    gone: &mut ThreadNames,
+) {
     for (_, threads) in asked.index.changes().range(since.saturating_add(1)..) {
         for thread in threads {
             if asked.index.threads().contains_key(thread) {
@@ -120,8 +131,8 @@ fn sort_touched(asked: &Asked<'_>, since: usize, here: &mut ThreadNames, gone: &
 }
 
 /// Of these threads those of a page, and whether more follow.
-fn push_here(
-    asked: &Asked<'_>,
+fn push_here<B: BookCalls>(
+    asked: &Asked<'_, B>,
     page: &Page<ThreadName>,
     here: &ThreadNames,
     rows: &mut Rows,
@@ -148,8 +159,8 @@ fn push_here(
 
 // ---- a row
 
-fn row_of(
-    asked: &Asked<'_>,
+fn row_of<B: BookCalls>(
+    asked: &Asked<'_, B>,
     thread: &ThreadName,
     presence: Presence,
     next: Move,
@@ -168,7 +179,7 @@ fn row_of(
 }
 
 /// Where a thread stands, if it hasn't ended.
-fn put_place(asked: &Asked<'_>, row: &mut Object, frame: &Frame) {
+fn put_place<B: BookCalls>(asked: &Asked<'_, B>, row: &mut Object, frame: &Frame) {
     if matches!(&frame.phase, Phase::Done(_) | Phase::Failed(_)) {
         row.put_null("at");
         row.put_null("state");
@@ -183,7 +194,12 @@ fn put_place(asked: &Asked<'_>, row: &mut Object, frame: &Frame) {
 }
 
 /// How often the retrier was used that the thread's last step used, if that step was a retry.
-fn put_retries(asked: &Asked<'_>, row: &mut Object, thread: &ThreadName, frame: &Frame) {
+fn put_retries<B: BookCalls>(
+    asked: &Asked<'_, B>,
+    row: &mut Object,
+    thread: &ThreadName,
+    frame: &Frame,
+) {
     match retrier_of(asked, thread, frame) {
         Ok(Some((place, times))) => {
             row.put_number("retrier", place);
@@ -198,8 +214,8 @@ fn put_retries(asked: &Asked<'_>, row: &mut Object, thread: &ThreadName, frame: 
 }
 
 /// The retrier that a thread's last step used, if that remains and was a retry, and how often it was used at this visit.
-fn retrier_of(
-    asked: &Asked<'_>,
+fn retrier_of<B: BookCalls>(
+    asked: &Asked<'_, B>,
     thread: &ThreadName,
     frame: &Frame,
 ) -> Result<Option<(usize, u32)>, AllocError> {
@@ -234,7 +250,11 @@ pub(crate) fn used_between(old: &Frame, new: &Frame) -> Option<(usize, u32)> {
 // ---- where a frame stands
 
 /// The state's type as its machine says.
-pub(crate) fn type_of(book: &Book, asked: &Asked<'_>, frame: &Frame) -> Option<&'static str> {
+pub(crate) fn type_of<B: BookCalls>(
+    book: &B,
+    asked: &Asked<'_, B>,
+    frame: &Frame,
+) -> Option<&'static str> {
     let machine = machine_of(book, asked, &frame.level)?;
     match located(machine, frame) {
         Some((_, state)) => Some(type_word(state)),
@@ -256,9 +276,9 @@ fn type_word(state: &State) -> &'static str {
 }
 
 /// The machine of a level, as it was defined.
-pub(crate) fn machine_of<'a>(
-    book: &'a Book,
-    asked: &Asked<'_>,
+pub(crate) fn machine_of<'a, B: BookCalls>(
+    book: &'a B,
+    asked: &Asked<'_, B>,
     level: &Level,
 ) -> Option<&'a asl_tree::Machine> {
     match defined_in(book, asked, level) {
@@ -268,11 +288,18 @@ pub(crate) fn machine_of<'a>(
 }
 
 /// The machine of a level, as it was defined and as turns take it; none if the index has no such definition.
-pub fn shared_machine_of<'a>(asked: &Asked<'a>, level: &Level) -> Option<&'a SharedMachine> {
+pub fn shared_machine_of<'a, B: BookCalls>(
+    asked: &Asked<'a, B>,
+    level: &Level,
+) -> Option<&'a SharedMachine> {
     defined_in(asked.book, asked, level)
 }
 
-fn defined_in<'a>(book: &'a Book, asked: &Asked<'_>, level: &Level) -> Option<&'a SharedMachine> {
+fn defined_in<'a, B: BookCalls>(
+    book: &'a B,
+    asked: &Asked<'_, B>,
+    level: &Level,
+) -> Option<&'a SharedMachine> {
     let definition = asked.index.definitions().get(&level.machine)?;
     let (_, entries) = book.entries();
     // (the table's line is no entry)
@@ -283,7 +310,7 @@ fn defined_in<'a>(book: &'a Book, asked: &Asked<'_>, level: &Level) -> Option<&'
 }
 
 /// The state's place in the definition, as a list of names and indexes.
-fn place_of(asked: &Asked<'_>, frame: &Frame) -> Result<Json, AllocError> {
+fn place_of<B: BookCalls>(asked: &Asked<'_, B>, frame: &Frame) -> Result<Json, AllocError> {
     let mut place = Rows::new(asked.alloc);
     let mut here = match asked.index.definitions().get(&frame.level.machine) {
         Some(definition) => Some(&definition.value),
@@ -333,7 +360,10 @@ fn inside<'a>(value: Option<&'a serde_json::Value>, name: &str) -> Option<&'a se
 // ---- moves
 
 /// What a thread does next; nothing if it isn't there. Takes time in the number of branches over which it waits, and memory for their names.
-pub fn move_of(asked: &Asked<'_>, thread: &ThreadName) -> Result<Option<Move>, AllocError> {
+pub fn move_of<B: BookCalls>(
+    asked: &Asked<'_, B>,
+    thread: &ThreadName,
+) -> Result<Option<Move>, AllocError> {
     let Some(frame) = frame_of(asked.book, thread) else {
         return Ok(None);
     };
@@ -350,8 +380,8 @@ pub fn move_of(asked: &Asked<'_>, thread: &ThreadName) -> Result<Option<Move>, A
 }
 
 /// Whether a thread over branches waits for them, joins them, or ends them since one failed.
-fn closing_of(
-    asked: &Asked<'_>,
+fn closing_of<B: BookCalls>(
+    asked: &Asked<'_, B>,
     thread: &ThreadName,
     frame: &Frame,
     branches: u32,
@@ -367,8 +397,8 @@ fn closing_of(
 }
 
 /// Whether a branch has failed.
-fn has_failed_branch(
-    asked: &Asked<'_>,
+fn has_failed_branch<B: BookCalls>(
+    asked: &Asked<'_, B>,
     thread: &ThreadName,
     frame: &Frame,
     branches: u32,
@@ -384,7 +414,7 @@ fn has_failed_branch(
     Ok(false)
 }
 
-fn has_failed(book: &Book, thread: ThreadName) -> bool {
+fn has_failed<B: BookCalls>(book: &B, thread: ThreadName) -> bool {
     let has = match frame_of(book, &thread) {
         Some(frame) => matches!(&frame.phase, Phase::Failed(_)),
         None => false,

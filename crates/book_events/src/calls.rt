@@ -1,6 +1,8 @@
 // The calls of a book that one caller has, who keeps its entries in a journal.
-ghost use Rattle.std.specs.Prelude.{◌≡◌, ◌<◌, ◌^◌, ◌⊎◌, [], length, map, IfOk, IsOk, MatchResult, Err};
+ghost use Rattle.std.specs.Prelude.{◌≡◌, ◌<◌, ◌^◌, ◌⊎◌, [], length, map, option_copied, IfOk, IsOk, MatchResult, Option, Some, Err};
+ghost use Rattle.attr_values.specs.declared.key.Key.{Key};
 ghost use Rattle.item_store.specs.Listing.{IsListing, items_left};
+ghost use Rattle.item_store.specs.declared.slot.SlotNo.{SlotNo};
 ghost use Rattle.saved_steps.specs.Steps.{name_of};
 ghost use Rattle.book_log.specs.Beginning.{begun_table};
 ghost use Rattle.book_log.specs.Legal.{IsAccepted};
@@ -10,9 +12,9 @@ ghost use Rattle.book_events.specs.Answered.{IsCommandAnswered, IsProperChange, 
 
 use crate::change::Change;
 use crate::events::Events;
-use attr_values::ItemFault;
+use attr_values::{Item, ItemFault};
 use book_log::{Begin, Entry, Refusal};
-use item_store::Items;
+use item_store::{Items, SlotNo};
 use std::alloc::Global;
 use step_history::StepRecords;
 
@@ -27,6 +29,9 @@ pub trait BookCalls: Events + Drop {
 
     /// Everything is made for the command, and the book is as it was left when this was made.
     ghost can_enter: { Self → Self.Made → Type 0 };
+
+    /// The key whose item a slot of the table has.
+    ghost key_in: { Self → SlotNo → Option Key };
 
     /// As `Book::open`.
     fn open(alloc: Global, begin: Begin) -> Result<Self, ItemFault>
@@ -55,6 +60,10 @@ pub trait BookCalls: Events + Drop {
     fn items(&self) -> Items<'_>
         ensures items { IsListing (world_of (Self.log self.now)).items (items_left result) }
         ensures fits { length (items_left result) < 2 ^ 63 };
+
+    /// As `Book::item_in`.
+    fn item_in(&self, slot: SlotNo) -> Option<&Item>
+        ensures { (key : Key) → key_in self.now slot ≡ Some key → option_copied result ≡ (world_of (Self.log self.now)).items key };
 
     /// As `Book::history`.
     fn history(&self) -> &StepRecords

@@ -10,6 +10,7 @@ mod events;
 mod room;
 mod ticket;
 
+pub use book_log::{Begin, Entry, Refusal};
 pub use branch_tree::Readiness;
 pub use calls::BookCalls;
 pub use change::Change;
@@ -17,5 +18,6 @@ pub use commits::{CommitRefusal, Staleness};
 pub use cursor::Cursor;
 pub use events::Events;
 pub use room::{PlanRoom, Room};
-pub use step_history::turns as turns;
+pub use saved_steps::{Access, Fact, Kind, Saved, StepRecord};
+pub use step_history::{StepRecords, turns as turns};
 pub use ticket::Ticket;

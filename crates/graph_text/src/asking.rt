@@ -5,7 +5,7 @@ use crate::listing::tell_book;
 use crate::page::Page;
 use crate::picture::Picture;
 use crate::planned::tell_plan;
-use rollback_book::{Book, Refusal, StepRecords};
+use book_events::{BookCalls, Refusal, StepRecords};
 use std::alloc::{AllocError, Global};
 use step_graph::why;
 use step_names::StepName;
@@ -35,12 +35,16 @@ pub struct Answer {
 ///
 /// A list takes time in the numbers of entries, steps and threads; a plan and a picture in that of steps and of what is shown, each with
 /// logarithms; a chain as [`why`], with the square of the number of consequences.
-pub fn ask(alloc: Global, book: Option<&Book>, question: &Question) -> Result<Answer, AllocError> {
+pub fn ask<B: BookCalls>(
+    alloc: Global,
+    book: Option<&B>,
+    question: &Question,
+) -> Result<Answer, AllocError> {
     match book {
         Some(book) => ask_of(alloc, Some(book), book.history(), question),
         None => {
             let empty = StepRecords::new(alloc);
-            let answer = ask_of(alloc, None, &empty, question);
+            let answer = ask_of(alloc, None::<&B>, &empty, question);
             drop(empty);
             answer
         }
@@ -48,9 +52,9 @@ pub fn ask(alloc: Global, book: Option<&Book>, question: &Question) -> Result<An
 }
 
 /// The answer over these records.
-fn ask_of(
+fn ask_of<B: BookCalls>(
     alloc: Global,
-    book: Option<&Book>,
+    book: Option<&B>,
     records: &StepRecords,
     question: &Question,
 ) -> Result<Answer, AllocError> {
@@ -64,10 +68,10 @@ fn ask_of(
     Ok(Answer { page, is_found })
 }
 
-fn tell_plan_of(
+fn tell_plan_of<B: BookCalls>(
     page: &mut Page,
     alloc: Global,
-    book: Option<&Book>,
+    book: Option<&B>,
     records: &StepRecords,
     step: &StepName,
 ) -> Result<bool, AllocError> {
@@ -78,7 +82,11 @@ fn tell_plan_of(
     Ok(true)
 }
 
-fn tell_list(page: &mut Page, alloc: Global, book: Option<&Book>) -> Result<bool, AllocError> {
+fn tell_list<B: BookCalls>(
+    page: &mut Page,
+    alloc: Global,
+    book: Option<&B>,
+) -> Result<bool, AllocError> {
     match book {
         Some(book) => tell_book(page, alloc, book)?,
         None => page.word("no table yet\n")?,
@@ -86,10 +94,10 @@ fn tell_list(page: &mut Page, alloc: Global, book: Option<&Book>) -> Result<bool
     Ok(true)
 }
 
-fn tell_why(
+fn tell_why<B: BookCalls>(
     page: &mut Page,
     alloc: Global,
-    book: Option<&Book>,
+    book: Option<&B>,
     records: &StepRecords,
     from: &StepName,
     to: &StepName,
@@ -120,10 +128,10 @@ fn tell_why(
     }
 }
 
-fn tell_dot(
+fn tell_dot<B: BookCalls>(
     page: &mut Page,
     alloc: Global,
-    book: Option<&Book>,
+    book: Option<&B>,
     records: &StepRecords,
     from: Option<&StepName>,
 ) -> Result<bool, AllocError> {
@@ -141,10 +149,10 @@ fn tell_dot(
 }
 
 /// The place of a step; or a sentence that says why it doesn't remain.
-fn find(
+fn find<B: BookCalls>(
     page: &mut Page,
     alloc: Global,
-    book: Option<&Book>,
+    book: Option<&B>,
     records: &StepRecords,
     step: &StepName,
 ) -> Result<Option<usize>, AllocError> {
@@ -161,7 +169,7 @@ fn find(
 }
 
 /// Whether a step that doesn't remain was settled.
-fn is_settled(alloc: Global, book: Option<&Book>, step: &StepName) -> bool {
+fn is_settled<B: BookCalls>(alloc: Global, book: Option<&B>, step: &StepName) -> bool {
     match book {
         Some(book) => matches!(book.plan_room(alloc, step), Err(Refusal::Settled)),
         None => false,

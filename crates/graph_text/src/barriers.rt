@@ -1,7 +1,7 @@
 // Barriers: each stands for the branches of a Map up to one, for which first moves waited under its bound.
 use crate::page::Page;
 use crate::picture::Picture;
-use rollback_book::StepRecords;
+use book_events::StepRecords;
 use std::alloc::{AllocError, Global};
 use std::collections::BTreeMap;
 use step_graph::{awaited_branch, record_at, thread_above};

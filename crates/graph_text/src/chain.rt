@@ -1,6 +1,6 @@
 // Why one step is a consequence of another.
 use crate::page::Page;
-use rollback_book::StepRecords;
+use book_events::StepRecords;
 use std::alloc::{AllocError, Global};
 use std::collections::VecDeque;
 use step_graph::{reason_at, record_at};

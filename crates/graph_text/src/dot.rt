@@ -3,7 +3,7 @@ use crate::barriers::write_barriers;
 use crate::cutting::{is_longer, shown};
 use crate::page::Page;
 use crate::picture::{Look, Picture};
-use rollback_book::{Fact, StepRecords};
+use book_events::{Fact, StepRecords};
 use std::alloc::{AllocError, Global};
 use step_graph::{Edge, Reason, reason_word, record_at};
 use step_names::ThreadName;

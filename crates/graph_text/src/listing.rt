@@ -1,8 +1,8 @@
 // A book's executions and threads, and how near it is to its limits.
 use crate::page::Page;
+use book_events::turns::{Frame, Phase};
+use book_events::{BookCalls, Entry, Readiness, Refusal};
 use json_tree::Text;
-use rollback_book::turns::{Frame, Phase};
-use rollback_book::{Book, Entry, Readiness, Refusal};
 use std::alloc::{AllocError, Global};
 use std::collections::BTreeMap;
 use step_graph::branch_of;
@@ -27,7 +27,11 @@ enum Progress {
 
 /// The book's sizes, what is held, and a line for each thread that has a frame or steps. Takes time in the numbers of entries, of steps and of
 /// threads, logarithms aside.
-pub(crate) fn tell_book(page: &mut Page, alloc: Global, book: &Book) -> Result<(), AllocError> {
+pub(crate) fn tell_book<B: BookCalls>(
+    page: &mut Page,
+    alloc: Global,
+    book: &B,
+) -> Result<(), AllocError> {
     let (_, entries) = book.entries();
     let steps = book.history().len();
     tell_executions(page, alloc, book)?;
@@ -56,7 +60,7 @@ fn tell_sizes(page: &mut Page, steps: u64, entries: u64) -> Result<(), AllocErro
 }
 
 /// The hold that stands, if one does, and how many steps of it are left.
-fn tell_hold(page: &mut Page, alloc: Global, book: &Book) -> Result<(), AllocError> {
+fn tell_hold<B: BookCalls>(page: &mut Page, alloc: Global, book: &B) -> Result<(), AllocError> {
     let Some(step) = book.held() else {
         return Ok(());
     };
@@ -98,7 +102,11 @@ impl Ends {
 }
 
 /// How many executions are done, failed and open: of all, and of each machine.
-fn tell_executions(page: &mut Page, alloc: Global, book: &Book) -> Result<(), AllocError> {
+fn tell_executions<B: BookCalls>(
+    page: &mut Page,
+    alloc: Global,
+    book: &B,
+) -> Result<(), AllocError> {
     let mut machines = BTreeMap::new(alloc);
     let mut started = BTreeMap::new(alloc);
     let (_, entries) = book.entries();
@@ -125,8 +133,8 @@ fn tell_executions(page: &mut Page, alloc: Global, book: &Book) -> Result<(), Al
     Ok(())
 }
 
-fn count_ends(
-    book: &Book,
+fn count_ends<B: BookCalls>(
+    book: &B,
     started: &BTreeMap<ThreadName, &Text>,
     machines: &mut BTreeMap<Text, Ends>,
 ) -> Ends {
@@ -155,7 +163,7 @@ fn tell_ends(page: &mut Page, ends: Ends) -> Result<(), AllocError> {
 // ---- which threads there are
 
 /// The executions that were started and are still there, also those whose steps are all settled.
-fn count_executions(book: &Book, counts: &mut Counts) -> Result<(), AllocError> {
+fn count_executions<B: BookCalls>(book: &B, counts: &mut Counts) -> Result<(), AllocError> {
     let (_, entries) = book.entries();
     for entry in entries {
         if let Entry::Start { exec, .. } = entry {
@@ -167,7 +175,7 @@ fn count_executions(book: &Book, counts: &mut Counts) -> Result<(), AllocError> 
     Ok(())
 }
 
-fn count_steps(book: &Book, counts: &mut Counts) -> Result<(), AllocError> {
+fn count_steps<B: BookCalls>(book: &B, counts: &mut Counts) -> Result<(), AllocError> {
     let records = book.history();
     for place in 0..records.len() {
         put(counts, &records.get(place).fact.name.thread, 1)?;
@@ -185,7 +193,11 @@ fn put(counts: &mut Counts, thread: &ThreadName, more: u64) -> Result<(), AllocE
 }
 
 /// The branches of the threads that are parked, at any depth, also those without steps.
-fn add_branches(alloc: Global, book: &Book, counts: &mut Counts) -> Result<(), AllocError> {
+fn add_branches<B: BookCalls>(
+    alloc: Global,
+    book: &B,
+    counts: &mut Counts,
+) -> Result<(), AllocError> {
     let mut left = Vec::new(alloc);
     for name in counts.keys() {
         left.push(name.copy()?)?;
@@ -230,10 +242,10 @@ fn branches_of(frame: &Frame) -> u32 {
 
 // ---- a thread
 
-fn tell_thread(
+fn tell_thread<B: BookCalls>(
     page: &mut Page,
     alloc: Global,
-    book: &Book,
+    book: &B,
     name: &ThreadName,
     count: u64,
 ) -> Result<(), AllocError> {
@@ -271,9 +283,9 @@ fn tell_count(page: &mut Page, count: u64, settled: u64) -> Result<(), AllocErro
 }
 
 /// What a thread can do next.
-fn next_word(
+fn next_word<B: BookCalls>(
     alloc: Global,
-    book: &Book,
+    book: &B,
     name: &ThreadName,
     frame: &Frame,
 ) -> Result<&'static str, AllocError> {
@@ -285,7 +297,7 @@ fn next_word(
 }
 
 /// Whether a thread has a move, as the book tells it with a ticket.
-fn progress_of(book: &Book, name: &ThreadName) -> Result<Progress, AllocError> {
+fn progress_of<B: BookCalls>(book: &B, name: &ThreadName) -> Result<Progress, AllocError> {
     match book.ticket(name) {
         Ok(ticket) => {
             drop(ticket);
@@ -298,7 +310,7 @@ fn progress_of(book: &Book, name: &ThreadName) -> Result<Progress, AllocError> {
 }
 
 /// The frame of a thread, if it has one.
-fn frame_of<'a>(book: &'a Book, name: &ThreadName) -> Option<&'a Frame> {
+fn frame_of<'a, B: BookCalls>(book: &'a B, name: &ThreadName) -> Option<&'a Frame> {
     match book.show(name) {
         Ok(frame) => Some(frame),
         Err(_) => None,
@@ -306,9 +318,9 @@ fn frame_of<'a>(book: &'a Book, name: &ThreadName) -> Option<&'a Frame> {
 }
 
 /// The word for the move of a thread that has one.
-fn moving_word(
+fn moving_word<B: BookCalls>(
     alloc: Global,
-    book: &Book,
+    book: &B,
     name: &ThreadName,
     frame: &Frame,
 ) -> Result<&'static str, AllocError> {
@@ -326,7 +338,7 @@ fn moving_word(
     Ok("join")
 }
 
-fn has_failed(book: &Book, name: &ThreadName) -> bool {
+fn has_failed<B: BookCalls>(book: &B, name: &ThreadName) -> bool {
     match frame_of(book, name) {
         Some(frame) => matches!(&frame.phase, Phase::Failed(_)),
         None => false,

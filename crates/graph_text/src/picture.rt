@@ -1,5 +1,5 @@
 // What a picture shows: steps by their threads, and the dependences among them.
-use rollback_book::StepRecords;
+use book_events::StepRecords;
 use std::alloc::{AllocError, Global};
 use std::collections::BTreeMap;
 use step_graph::{Edge, Marks, edges, record_at};

@@ -1,9 +1,9 @@
 // A plan with its reasons: what a rollback takes back and why, what that gives back, and what is ready then.
 use crate::page::Page;
 use attr_values::{Item, Key};
+use book_events::turns::{Frame, Phase};
+use book_events::{BookCalls, Fact, Saved, StepRecord, StepRecords};
 use item_store::AccessMode;
-use rollback_book::turns::{Frame, Phase};
-use rollback_book::{Book, Fact, Saved, StepRecord, StepRecords};
 use std::alloc::{AllocError, Global};
 use std::collections::BTreeMap;
 use step_graph::{Cause, closed_threads, plan_reasons, record_at, take_reason, thread_above};
@@ -20,10 +20,10 @@ type Changes<'a> = BTreeMap<Key, (Option<&'a Item>, Option<&'a Item>)>;
 
 /// The plan of the step at a place. Takes the time of `StepRecords::plan` and, logarithms aside, time in the number of the plan's steps and of
 /// what they give back.
-pub(crate) fn tell_plan(
+pub(crate) fn tell_plan<B: BookCalls>(
     page: &mut Page,
     alloc: Global,
-    book: Option<&Book>,
+    book: Option<&B>,
     records: &StepRecords,
     at: usize,
 ) -> Result<(), AllocError> {
@@ -46,10 +46,10 @@ pub(crate) fn tell_plan(
 // ---- the head
 
 /// How many steps of which executions, and what becomes of which items.
-fn tell_head(
+fn tell_head<B: BookCalls>(
     page: &mut Page,
     alloc: Global,
-    book: Option<&Book>,
+    book: Option<&B>,
     records: &StepRecords,
     plan: &[usize],
 ) -> Result<(), AllocError> {
@@ -95,9 +95,9 @@ fn tell_names(
 }
 
 /// Notes what a write gives back. The earliest write of a key comes last, and decides.
-fn note_change<'a>(
+fn note_change<'a, B: BookCalls>(
     changes: &mut Changes<'a>,
-    book: Option<&'a Book>,
+    book: Option<&'a B>,
     kept: &'a StepRecord,
 ) -> Result<(), AllocError> {
     let Some(access) = &kept.fact.access else {

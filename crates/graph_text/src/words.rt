@@ -1,9 +1,9 @@
 // The words for steps, keys, frames and reasons.
 use crate::page::Page;
 use attr_values::{Item, Key, KeyPart, write_item};
+use book_events::turns::{Frame, Phase};
+use book_events::{Access, Fact, Kind};
 use item_store::AccessMode;
-use rollback_book::turns::{Frame, Phase};
-use rollback_book::{Access, Fact, Kind};
 use std::alloc::{AllocError, Global};
 use step_graph::{Reason, kind_word};
 

@@ -4,7 +4,7 @@ use crate::listing::{Filter, executions, put_none};
 use crate::logging::{definition_of, log_from, machines_of};
 use crate::questions::Question;
 use crate::showing::{execution_of, step_of, steps_from, thread_of};
-use answer_causes::parts::books::{Book, Refusal};
+use answer_causes::parts::books::{BookCalls, Refusal};
 use answer_causes::parts::{
     Asked, Index, Object, Page, Rows, answer_after, no_answer, one_thread, ready_threads,
     threads_since,
@@ -23,9 +23,9 @@ pub struct Answer {
 }
 
 /// The answer of a book to a question; no book is one before its table is given. It changes nothing.
-pub fn ask(
+pub fn ask<B: BookCalls>(
     alloc: Global,
-    book: Option<&Book>,
+    book: Option<&B>,
     index: &Index,
     question: &Question,
 ) -> Result<Answer, AllocError> {
@@ -35,7 +35,10 @@ pub fn ask(
     }
 }
 
-fn answer_of(asked: &Asked<'_>, question: &Question) -> Result<Answer, AllocError> {
+fn answer_of<B: BookCalls>(
+    asked: &Asked<'_, B>,
+    question: &Question,
+) -> Result<Answer, AllocError> {
     match question {
         Question::Causes(step, _) | Question::ShowStep(step) | Question::Plan(step) => of_step(
             asked, step, question,
@@ -59,7 +62,11 @@ fn answer_of(asked: &Asked<'_>, question: &Question) -> Result<Answer, AllocErro
 }
 
 /// The executions of a filter, if its machine is one.
-fn list(asked: &Asked<'_>, filter: &Filter, page: &Page<ThreadName>) -> Result<Answer, AllocError> {
+fn list<B: BookCalls>(
+    asked: &Asked<'_, B>,
+    filter: &Filter,
+    page: &Page<ThreadName>,
+) -> Result<Answer, AllocError> {
     match &filter.machine {
         Some(machine) if !asked.index.definitions().contains_key(machine) => {
             absent_word(asked.alloc, machine.as_str(), " is no machine")
@@ -71,7 +78,11 @@ fn list(asked: &Asked<'_>, filter: &Filter, page: &Page<ThreadName>) -> Result<A
 // ---- of a step
 
 /// The answer to a question of one step.
-fn of_step(asked: &Asked<'_>, step: &StepName, question: &Question) -> Result<Answer, AllocError> {
+fn of_step<B: BookCalls>(
+    asked: &Asked<'_, B>,
+    step: &StepName,
+    question: &Question,
+) -> Result<Answer, AllocError> {
     let Some(at) = asked.book.history().find(step) else {
         return gone(asked, step);
     };
@@ -82,7 +93,11 @@ fn of_step(asked: &Asked<'_>, step: &StepName, question: &Question) -> Result<An
     }
 }
 
-fn why(asked: &Asked<'_>, from: &StepName, to: &StepName) -> Result<Answer, AllocError> {
+fn why<B: BookCalls>(
+    asked: &Asked<'_, B>,
+    from: &StepName,
+    to: &StepName,
+) -> Result<Answer, AllocError> {
     let Some(first) = asked.book.history().find(from) else {
         return gone(asked, from);
     };
@@ -95,7 +110,11 @@ fn why(asked: &Asked<'_>, from: &StepName, to: &StepName) -> Result<Answer, Allo
     }
 }
 
-fn no_consequence(asked: &Asked<'_>, from: &StepName, to: &StepName) -> Result<Answer, AllocError> {
+fn no_consequence<B: BookCalls>(
+    asked: &Asked<'_, B>,
+    from: &StepName,
+    to: &StepName,
+) -> Result<Answer, AllocError> {
     let mut sentence = to.write_text(asked.alloc)?;
     let written = write_behind(&mut sentence, from);
     absent_if(asked.alloc, sentence, written)
@@ -107,7 +126,7 @@ fn write_behind(sentence: &mut String, from: &StepName) -> Result<(), AllocError
 }
 
 /// Why there is no such step.
-fn gone(asked: &Asked<'_>, step: &StepName) -> Result<Answer, AllocError> {
+fn gone<B: BookCalls>(asked: &Asked<'_, B>, step: &StepName) -> Result<Answer, AllocError> {
     let words = if is_settled(asked, step) {
         " is settled"
     } else {
@@ -117,7 +136,7 @@ fn gone(asked: &Asked<'_>, step: &StepName) -> Result<Answer, AllocError> {
 }
 
 /// Whether a step that doesn't remain was settled.
-fn is_settled(asked: &Asked<'_>, step: &StepName) -> bool {
+fn is_settled<B: BookCalls>(asked: &Asked<'_, B>, step: &StepName) -> bool {
     matches!(
         asked.book.plan_room(asked.alloc, step),
         Err(Refusal::Settled)
@@ -127,7 +146,7 @@ fn is_settled(asked: &Asked<'_>, step: &StepName) -> bool {
 // ---- of another name
 
 /// The answer to a question of a thread, an execution or a machine.
-fn of_name(asked: &Asked<'_>, question: &Question) -> Result<Answer, AllocError> {
+fn of_name<B: BookCalls>(asked: &Asked<'_, B>, question: &Question) -> Result<Answer, AllocError> {
     match question {
         Question::ShowThread(thread, page) => {
             of_thread(
@@ -160,8 +179,8 @@ fn of_name(asked: &Asked<'_>, question: &Question) -> Result<Answer, AllocError>
 }
 
 /// An answer about a thread; of none a sentence, which begins with its name.
-fn of_thread(
-    asked: &Asked<'_>,
+fn of_thread<B: BookCalls>(
+    asked: &Asked<'_, B>,
     thread: &ThreadName,
     json: Result<Option<Json>, AllocError>,
     words: &str,
@@ -175,7 +194,11 @@ fn of_thread(
 // ---- of an item
 
 /// The accesses of a key, which is an object of attributes or, if the key has one text, this text.
-fn item(asked: &Asked<'_>, text: &str, page: &Page<StepName>) -> Result<Answer, AllocError> {
+fn item<B: BookCalls>(
+    asked: &Asked<'_, B>,
+    text: &str,
+    page: &Page<StepName>,
+) -> Result<Answer, AllocError> {
     if let Some(after) = &page.after {
         if asked.book.history().find(after).is_none() {
             return gone(asked, after);
@@ -187,8 +210,8 @@ fn item(asked: &Asked<'_>, text: &str, page: &Page<StepName>) -> Result<Answer, 
     }
 }
 
-fn item_at(
-    asked: &Asked<'_>,
+fn item_at<B: BookCalls>(
+    asked: &Asked<'_, B>,
     text: &str,
     key: Key,
     page: &Page<StepName>,
@@ -202,7 +225,7 @@ fn item_at(
 }
 
 /// The items, from the first one behind a key.
-fn items(asked: &Asked<'_>, page: &Page<String>) -> Result<Answer, AllocError> {
+fn items<B: BookCalls>(asked: &Asked<'_, B>, page: &Page<String>) -> Result<Answer, AllocError> {
     let Some(text) = &page.after else {
         return items_behind(asked, None, page.most);
     };
@@ -212,8 +235,8 @@ fn items(asked: &Asked<'_>, page: &Page<String>) -> Result<Answer, AllocError> {
     }
 }
 
-fn items_behind(
-    asked: &Asked<'_>,
+fn items_behind<B: BookCalls>(
+    asked: &Asked<'_, B>,
     after: Option<Key>,
     most: Option<usize>,
 ) -> Result<Answer, AllocError> {
@@ -223,12 +246,12 @@ fn items_behind(
     found(json)
 }
 
-fn no_item(asked: &Asked<'_>, text: &str) -> Result<Answer, AllocError> {
+fn no_item<B: BookCalls>(asked: &Asked<'_, B>, text: &str) -> Result<Answer, AllocError> {
     absent_word(asked.alloc, text, " is no item")
 }
 
 /// The key that a text says.
-fn key_in(asked: &Asked<'_>, text: &str) -> Result<Option<Key>, AllocError> {
+fn key_in<B: BookCalls>(asked: &Asked<'_, B>, text: &str) -> Result<Option<Key>, AllocError> {
     match read(asked.alloc, text.as_bytes()) {
         Ok(Json::Fields(fields)) => key_of_json(asked, Ok(Json::Fields(fields))),
         Ok(other) => {
@@ -240,8 +263,8 @@ fn key_in(asked: &Asked<'_>, text: &str) -> Result<Option<Key>, AllocError> {
     }
 }
 
-fn key_of_json(
-    asked: &Asked<'_>,
+fn key_of_json<B: BookCalls>(
+    asked: &Asked<'_, B>,
     json: Result<Json, AllocError>,
 ) -> Result<Option<Key>, AllocError> {
     let json = json?;
@@ -254,7 +277,7 @@ fn key_of_json(
     }
 }
 
-fn key_of_item(asked: &Asked<'_>, item: Item) -> Result<Option<Key>, AllocError> {
+fn key_of_item<B: BookCalls>(asked: &Asked<'_, B>, item: Item) -> Result<Option<Key>, AllocError> {
     let (begin, _) = asked.book.entries();
     let key = key_of(&begin.schema, &item);
     drop(item);
@@ -266,7 +289,7 @@ fn key_of_item(asked: &Asked<'_>, item: Item) -> Result<Option<Key>, AllocError>
 }
 
 /// The key whose one attribute is this text.
-fn plain_key(asked: &Asked<'_>, text: &str) -> Result<Json, AllocError> {
+fn plain_key<B: BookCalls>(asked: &Asked<'_, B>, text: &str) -> Result<Json, AllocError> {
     let (begin, _) = asked.book.entries();
     let tag = match begin.schema.partition.kind {
         KeyType::S => "S",

@@ -1,5 +1,5 @@
 // Steps whose name, state, error or key has a text.
-use answer_causes::parts::books::{Phase, StepRecord};
+use answer_causes::parts::books::{BookCalls, Phase, StepRecord};
 use answer_causes::parts::graph::record_at;
 use answer_causes::parts::{
     Asked, Object, Rows, frame_after, frame_before, key_value, put_step_row,
@@ -9,7 +9,11 @@ use json_tree::{Json, write_text};
 use std::alloc::AllocError;
 
 /// The remaining steps whose name, state, error or key has a text, whatever the case of its letters, the latest first, at most so many.
-pub(crate) fn found_steps(asked: &Asked<'_>, text: &str, most: usize) -> Result<Json, AllocError> {
+pub(crate) fn found_steps<B: BookCalls>(
+    asked: &Asked<'_, B>,
+    text: &str,
+    most: usize,
+) -> Result<Json, AllocError> {
     let mut rows = Rows::new(asked.alloc);
     let more = push_found(asked, text.as_bytes(), most, &mut rows);
     let mut answer = asked.answer();
@@ -19,8 +23,8 @@ pub(crate) fn found_steps(asked: &Asked<'_>, text: &str, most: usize) -> Result<
 }
 
 /// At most so many steps with a text, and whether more follow.
-fn push_found(
-    asked: &Asked<'_>,
+fn push_found<B: BookCalls>(
+    asked: &Asked<'_, B>,
     text: &[u8],
     most: usize,
     rows: &mut Rows,
@@ -43,14 +47,22 @@ fn push_found(
     Ok(false)
 }
 
-fn found_row(asked: &Asked<'_>, kept: &StepRecord, place: usize) -> Result<Json, AllocError> {
+fn found_row<B: BookCalls>(
+    asked: &Asked<'_, B>,
+    kept: &StepRecord,
+    place: usize,
+) -> Result<Json, AllocError> {
     let mut row = Object::new(asked.alloc);
     put_step_row(asked, &mut row, kept, place);
     row.put_number("place", place);
     row.done()
 }
 
-fn has_text(asked: &Asked<'_>, kept: &StepRecord, text: &[u8]) -> Result<bool, AllocError> {
+fn has_text<B: BookCalls>(
+    asked: &Asked<'_, B>,
+    kept: &StepRecord,
+    text: &[u8],
+) -> Result<bool, AllocError> {
     if is_written(text, kept.fact.name.write_text(asked.alloc))? {
         return Ok(true);
     }
@@ -72,7 +84,7 @@ fn has_text(asked: &Asked<'_>, kept: &StepRecord, text: &[u8]) -> Result<bool, A
     }
 }
 
-fn key_text(asked: &Asked<'_>, key: &Key) -> Result<String, AllocError> {
+fn key_text<B: BookCalls>(asked: &Asked<'_, B>, key: &Key) -> Result<String, AllocError> {
     let value = key_value(asked, key)?;
     let text = write_text(asked.alloc, &value);
     drop(value);

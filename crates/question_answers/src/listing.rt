@@ -1,5 +1,5 @@
 // Executions: how each stands, and how many of each machine are done, failed or open.
-use answer_causes::parts::books::{Entry, Phase};
+use answer_causes::parts::books::{BookCalls, Entry, Phase};
 use answer_causes::parts::{Asked, Object, Page, Rows, ThreadNames, frame_of, whole};
 use json_tree::{Json, Text};
 use std::alloc::{AllocError, Global};
@@ -68,8 +68,8 @@ impl Count {
 }
 
 /// The executions, and how many there are. Takes time in the number of executions and in the steps of those that are listed.
-pub(crate) fn executions(
-    asked: &Asked<'_>,
+pub(crate) fn executions<B: BookCalls>(
+    asked: &Asked<'_, B>,
     filter: &Filter,
     page: &Page<ThreadName>,
 ) -> Result<Json, AllocError> {
@@ -87,8 +87,8 @@ pub(crate) fn executions(
 }
 
 /// The executions of a page, and whether more follow.
-fn push_listed(
-    asked: &Asked<'_>,
+fn push_listed<B: BookCalls>(
+    asked: &Asked<'_, B>,
     filter: &Filter,
     page: &Page<ThreadName>,
     rows: &mut Rows,
@@ -119,7 +119,7 @@ pub(crate) fn put_none(alloc: Global, answer: &mut Object, filter: &Filter) {
 type Counts = BTreeMap<Text, Count>;
 
 /// How many executions are done, failed and open: of all, and of each machine.
-fn put_counts(asked: &Asked<'_>, answer: &mut Object) {
+fn put_counts<B: BookCalls>(asked: &Asked<'_, B>, answer: &mut Object) {
     let mut by_machine = BTreeMap::new(asked.alloc);
     match add_machines(asked, &mut by_machine) {
         Ok(()) => {
@@ -134,14 +134,17 @@ fn put_counts(asked: &Asked<'_>, answer: &mut Object) {
     drop(by_machine);
 }
 
-fn add_machines(asked: &Asked<'_>, by_machine: &mut Counts) -> Result<(), AllocError> {
+fn add_machines<B: BookCalls>(
+    asked: &Asked<'_, B>,
+    by_machine: &mut Counts,
+) -> Result<(), AllocError> {
     for (name, _) in asked.index.definitions().iter() {
         by_machine.insert(name.copy()?, Count::none())?;
     }
     Ok(())
 }
 
-fn count_all(asked: &Asked<'_>, by_machine: &mut Counts) -> Count {
+fn count_all<B: BookCalls>(asked: &Asked<'_, B>, by_machine: &mut Counts) -> Count {
     let mut all = Count::none();
     for (exec, start) in asked.index.executions().iter() {
         let status = status_of(asked, exec);
@@ -164,7 +167,7 @@ fn counts_value(alloc: Global, by_machine: &Counts) -> Result<Json, AllocError> 
 }
 
 /// What is held, and what is left of it, the latest first.
-fn hold_of(asked: &Asked<'_>) -> Result<Json, AllocError> {
+fn hold_of<B: BookCalls>(asked: &Asked<'_, B>) -> Result<Json, AllocError> {
     let Some(step) = asked.book.held() else {
         return Ok(Json::Null);
     };
@@ -175,7 +178,7 @@ fn hold_of(asked: &Asked<'_>) -> Result<Json, AllocError> {
 }
 
 /// The executions that are gone, and went by a line after one.
-fn gone_since(asked: &Asked<'_>, since: usize) -> Result<Json, AllocError> {
+fn gone_since<B: BookCalls>(asked: &Asked<'_, B>, since: usize) -> Result<Json, AllocError> {
     let mut gone = ThreadNames::new(asked.alloc);
     for (_, threads) in asked.index.changes().range(since.saturating_add(1)..) {
         for thread in threads {
@@ -187,7 +190,12 @@ fn gone_since(asked: &Asked<'_>, since: usize) -> Result<Json, AllocError> {
     gone.done()
 }
 
-fn is_listed(asked: &Asked<'_>, filter: &Filter, exec: &ThreadName, start: usize) -> bool {
+fn is_listed<B: BookCalls>(
+    asked: &Asked<'_, B>,
+    filter: &Filter,
+    exec: &ThreadName,
+    start: usize,
+) -> bool {
     if let Some(status) = filter.status {
         if status_of(asked, exec) != status {
             return false;
@@ -208,7 +216,7 @@ fn is_listed(asked: &Asked<'_>, filter: &Filter, exec: &ThreadName, start: usize
 // ---- of one execution
 
 /// How an execution stands.
-pub(crate) fn status_of(asked: &Asked<'_>, exec: &ThreadName) -> Status {
+pub(crate) fn status_of<B: BookCalls>(asked: &Asked<'_, B>, exec: &ThreadName) -> Status {
     match frame_of(asked.book, exec) {
         Some(frame) => match &frame.phase {
             Phase::Done(_) => Status::Done,
@@ -220,7 +228,7 @@ pub(crate) fn status_of(asked: &Asked<'_>, exec: &ThreadName) -> Status {
 }
 
 /// The machine of an execution that was started by a line.
-fn machine_of<'a>(asked: &Asked<'a>, start: usize) -> Option<&'a Text> {
+fn machine_of<'a, B: BookCalls>(asked: &Asked<'a, B>, start: usize) -> Option<&'a Text> {
     let (_, entries) = asked.book.entries();
     // (the table's line is no entry)
     match entries.get(start.checked_sub(1)?) {
@@ -230,7 +238,7 @@ fn machine_of<'a>(asked: &Asked<'a>, start: usize) -> Option<&'a Text> {
 }
 
 /// The last line that changed an execution's threads.
-fn last_line(asked: &Asked<'_>, exec: &ThreadName, start: usize) -> usize {
+fn last_line<B: BookCalls>(asked: &Asked<'_, B>, exec: &ThreadName, start: usize) -> usize {
     let mut last = start;
     for (thread, presence) in asked.index.threads().range(exec..) {
         if thread.exec() != exec.exec() {
@@ -243,7 +251,11 @@ fn last_line(asked: &Asked<'_>, exec: &ThreadName, start: usize) -> usize {
     last
 }
 
-fn row_of(asked: &Asked<'_>, exec: &ThreadName, start: usize) -> Result<Json, AllocError> {
+fn row_of<B: BookCalls>(
+    asked: &Asked<'_, B>,
+    exec: &ThreadName,
+    start: usize,
+) -> Result<Json, AllocError> {
     let mut row = Object::new(asked.alloc);
     row.put_thread("execution", exec);
     row.put_word("machine", machine_word(asked, start));
@@ -255,7 +267,10 @@ fn row_of(asked: &Asked<'_>, exec: &ThreadName, start: usize) -> Result<Json, Al
 }
 
 /// The name of the machine of an execution that was started by a line.
-pub(crate) fn machine_word<'a>(asked: &Asked<'a>, start: usize) -> Option<&'a str> {
+pub(crate) fn machine_word<'a, B: BookCalls>(
+    asked: &Asked<'a, B>,
+    start: usize,
+) -> Option<&'a str> {
     match machine_of(asked, start) {
         Some(machine) => Some(machine.as_str()),
         None => None,
@@ -263,7 +278,7 @@ pub(crate) fn machine_word<'a>(asked: &Asked<'a>, start: usize) -> Option<&'a st
 }
 
 /// How many steps of an execution remain.
-fn steps_of(asked: &Asked<'_>, exec: &ThreadName) -> Result<Json, AllocError> {
+fn steps_of<B: BookCalls>(asked: &Asked<'_, B>, exec: &ThreadName) -> Result<Json, AllocError> {
     let steps = asked.book.history().of_execution(asked.alloc, exec.exec())?;
     let count = steps.len();
     drop(steps);
@@ -271,7 +286,7 @@ fn steps_of(asked: &Asked<'_>, exec: &ThreadName) -> Result<Json, AllocError> {
 }
 
 /// The state in which an execution is or failed, and its error.
-pub(crate) fn put_end(asked: &Asked<'_>, row: &mut Object, exec: &ThreadName) {
+pub(crate) fn put_end<B: BookCalls>(asked: &Asked<'_, B>, row: &mut Object, exec: &ThreadName) {
     let Some(frame) = frame_of(asked.book, exec) else {
         row.put_null("state");
         row.put_null("error");

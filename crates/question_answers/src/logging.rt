@@ -1,5 +1,5 @@
 // What was accepted, by the numbers of the lines.
-use answer_causes::parts::books::Entry;
+use answer_causes::parts::books::{BookCalls, Entry};
 use answer_causes::parts::graph::kind_word;
 use answer_causes::parts::{Asked, Object, Page, Rows, ThreadNames};
 use json_tree::{Json, Text};
@@ -8,7 +8,11 @@ use std::cmp::Ordering;
 use step_names::StepName;
 
 /// So many accepted lines from a number on.
-pub(crate) fn log_from(asked: &Asked<'_>, from: usize, count: usize) -> Result<Json, AllocError> {
+pub(crate) fn log_from<B: BookCalls>(
+    asked: &Asked<'_, B>,
+    from: usize,
+    count: usize,
+) -> Result<Json, AllocError> {
     let (_, entries) = asked.book.entries();
     let end = from.saturating_add(count);
     let lines = entries.len().saturating_add(1);
@@ -22,7 +26,7 @@ pub(crate) fn log_from(asked: &Asked<'_>, from: usize, count: usize) -> Result<J
     answer.done()
 }
 
-fn line_row(asked: &Asked<'_>, line: usize) -> Result<Json, AllocError> {
+fn line_row<B: BookCalls>(asked: &Asked<'_, B>, line: usize) -> Result<Json, AllocError> {
     let (begin, entries) = asked.book.entries();
     let mut row = Object::new(asked.alloc);
     row.put_number("entry", line);
@@ -40,7 +44,7 @@ fn line_row(asked: &Asked<'_>, line: usize) -> Result<Json, AllocError> {
     row.done()
 }
 
-fn put_entry(asked: &Asked<'_>, row: &mut Object, entry: &Entry, line: usize) {
+fn put_entry<B: BookCalls>(asked: &Asked<'_, B>, row: &mut Object, entry: &Entry, line: usize) {
     match entry {
         Entry::Define { name, .. } => {
             row.put_text("command", "define");
@@ -86,7 +90,7 @@ fn steps_value(alloc: Global, steps: &[StepName]) -> Result<Json, AllocError> {
 }
 
 /// The branches that went with a join or a terminate.
-fn put_closed(asked: &Asked<'_>, row: &mut Object, line: usize) {
+fn put_closed<B: BookCalls>(asked: &Asked<'_, B>, row: &mut Object, line: usize) {
     let closed = asked.index.closed_by(line);
     if closed.is_empty() {
         return;
@@ -101,7 +105,10 @@ fn put_closed(asked: &Asked<'_>, row: &mut Object, line: usize) {
 // ---- machines
 
 /// The names of the machines, in the order of their bytes.
-pub(crate) fn machines_of(asked: &Asked<'_>, page: &Page<Text>) -> Result<Json, AllocError> {
+pub(crate) fn machines_of<B: BookCalls>(
+    asked: &Asked<'_, B>,
+    page: &Page<Text>,
+) -> Result<Json, AllocError> {
     let mut names = Rows::new(asked.alloc);
     let more = push_machines(asked, page, &mut names);
     let mut answer = asked.answer();
@@ -111,7 +118,7 @@ pub(crate) fn machines_of(asked: &Asked<'_>, page: &Page<Text>) -> Result<Json, 
 }
 
 /// The names of a page, and whether more follow.
-fn push_machines(asked: &Asked<'_>, page: &Page<Text>, names: &mut Rows) -> bool {
+fn push_machines<B: BookCalls>(asked: &Asked<'_, B>, page: &Page<Text>, names: &mut Rows) -> bool {
     for (name, _) in asked.index.definitions().iter() {
         if is_up_to(name, &page.after) {
             continue;
@@ -133,7 +140,10 @@ fn is_up_to(name: &Text, after: &Option<Text>) -> bool {
 }
 
 /// The text of a machine's definition; nothing if there is no such machine.
-pub(crate) fn definition_of(asked: &Asked<'_>, name: &Text) -> Result<Option<Json>, AllocError> {
+pub(crate) fn definition_of<B: BookCalls>(
+    asked: &Asked<'_, B>,
+    name: &Text,
+) -> Result<Option<Json>, AllocError> {
     let Some(definition) = asked.index.definitions().get(name) else {
         return Ok(None);
     };

@@ -1,6 +1,6 @@
 // One execution, one thread or one step, with all that is known of it.
 use crate::listing::{machine_word, put_end, status_of};
-use answer_causes::parts::books::{Entry, Frame, Phase, StepRecord};
+use answer_causes::parts::books::{BookCalls, Entry, Frame, Phase, StepRecord};
 use answer_causes::parts::graph::{branch_of, record_at};
 use answer_causes::parts::{
     Asked, Move, Object, Page, Rows, frame_after, frame_before, frame_of, frame_value, item_value,
@@ -15,8 +15,8 @@ use step_names::{StepName, ThreadName};
 
 /// An execution: its machine, input and status, its output or how it failed, the branches for which it waits, and its threads with
 /// their steps, closed branches too.
-pub(crate) fn execution_of(
-    asked: &Asked<'_>,
+pub(crate) fn execution_of<B: BookCalls>(
+    asked: &Asked<'_, B>,
     exec: &ThreadName,
     page: &Page<StepName>,
 ) -> Result<Option<Json>, AllocError> {
@@ -40,7 +40,7 @@ pub(crate) fn execution_of(
 }
 
 /// The branches for which an execution's own thread waits: those that aren't done.
-fn waited_for(asked: &Asked<'_>, exec: &ThreadName) -> Result<Json, AllocError> {
+fn waited_for<B: BookCalls>(asked: &Asked<'_, B>, exec: &ThreadName) -> Result<Json, AllocError> {
     let mut names = Rows::new(asked.alloc);
     if push_waited(asked, exec, &mut names).is_err() {
         names.refuse();
@@ -48,7 +48,11 @@ fn waited_for(asked: &Asked<'_>, exec: &ThreadName) -> Result<Json, AllocError> 
     names.done()
 }
 
-fn push_waited(asked: &Asked<'_>, exec: &ThreadName, names: &mut Rows) -> Result<(), AllocError> {
+fn push_waited<B: BookCalls>(
+    asked: &Asked<'_, B>,
+    exec: &ThreadName,
+    names: &mut Rows,
+) -> Result<(), AllocError> {
     let Some(frame) = frame_of(asked.book, exec) else {
         return Ok(());
     };
@@ -68,14 +72,14 @@ fn push_waited(asked: &Asked<'_>, exec: &ThreadName, names: &mut Rows) -> Result
 }
 
 /// Adds the name of a branch that isn't done.
-fn push_open(asked: &Asked<'_>, names: &mut Rows, branch: ThreadName) {
+fn push_open<B: BookCalls>(asked: &Asked<'_, B>, names: &mut Rows, branch: ThreadName) {
     if !is_done(asked, &branch) {
         names.push_thread(&branch);
     }
     drop(branch);
 }
 
-fn is_done(asked: &Asked<'_>, thread: &ThreadName) -> bool {
+fn is_done<B: BookCalls>(asked: &Asked<'_, B>, thread: &ThreadName) -> bool {
     match frame_of(asked.book, thread) {
         Some(frame) => matches!(&frame.phase, Phase::Done(_)),
         None => false,
@@ -83,7 +87,7 @@ fn is_done(asked: &Asked<'_>, thread: &ThreadName) -> bool {
 }
 
 /// The input with which an execution was started.
-fn input_of(asked: &Asked<'_>, start: usize) -> Result<Json, AllocError> {
+fn input_of<B: BookCalls>(asked: &Asked<'_, B>, start: usize) -> Result<Json, AllocError> {
     let (_, entries) = asked.book.entries();
     let Some(before) = start.checked_sub(1) else {
         return Ok(Json::Null);
@@ -95,7 +99,7 @@ fn input_of(asked: &Asked<'_>, start: usize) -> Result<Json, AllocError> {
 }
 
 /// The output of an execution that is done, and the cause and the step of one that failed.
-fn put_result(asked: &Asked<'_>, answer: &mut Object, exec: &ThreadName) {
+fn put_result<B: BookCalls>(asked: &Asked<'_, B>, answer: &mut Object, exec: &ThreadName) {
     answer.put_null("output");
     answer.put_null("cause");
     answer.put_null("step");
@@ -116,8 +120,8 @@ fn put_result(asked: &Asked<'_>, answer: &mut Object, exec: &ThreadName) {
 
 /// The threads of an execution, in the order of their names, each with its steps, and whether more steps or threads follow. A page
 /// counts steps; a thread whose steps all come before it is left out.
-fn push_threads(
-    asked: &Asked<'_>,
+fn push_threads<B: BookCalls>(
+    asked: &Asked<'_, B>,
     exec: &ThreadName,
     page: &Page<StepName>,
     threads: &mut Rows,
@@ -133,8 +137,8 @@ fn push_threads(
 
 type ByThread = BTreeMap<ThreadName, Vec<usize>>;
 
-fn push_by_thread(
-    asked: &Asked<'_>,
+fn push_by_thread<B: BookCalls>(
+    asked: &Asked<'_, B>,
     page: &Page<StepName>,
     by_thread: &ByThread,
     threads: &mut Rows,
@@ -156,8 +160,8 @@ fn push_by_thread(
 
 /// Adds a thread with those of its steps that are in a page which has so many already; none if they all come before it. Whether more of
 /// them follow.
-fn push_thread(
-    asked: &Asked<'_>,
+fn push_thread<B: BookCalls>(
+    asked: &Asked<'_, B>,
     page: &Page<StepName>,
     thread: &ThreadName,
     places: &[usize],
@@ -176,8 +180,8 @@ fn push_thread(
 }
 
 /// Those of a thread's steps that are in a page which has so many already, and whether more of them follow.
-fn push_steps(
-    asked: &Asked<'_>,
+fn push_steps<B: BookCalls>(
+    asked: &Asked<'_, B>,
     page: &Page<StepName>,
     places: &[usize],
     shown: usize,
@@ -199,8 +203,8 @@ fn push_steps(
 }
 
 /// The places of an execution's remaining steps by their threads; each thread that is there has some or none.
-fn add_places(
-    asked: &Asked<'_>,
+fn add_places<B: BookCalls>(
+    asked: &Asked<'_, B>,
     exec: &ThreadName,
     by_thread: &mut ByThread,
 ) -> Result<(), AllocError> {
@@ -216,8 +220,8 @@ fn add_places(
     added
 }
 
-fn add_by_thread(
-    asked: &Asked<'_>,
+fn add_by_thread<B: BookCalls>(
+    asked: &Asked<'_, B>,
     places: &[usize],
     by_thread: &mut ByThread,
 ) -> Result<(), AllocError> {
@@ -237,8 +241,8 @@ fn add_by_thread(
 }
 
 /// One thread with its steps; nothing if it isn't there and no step of it remains.
-pub(crate) fn thread_of(
-    asked: &Asked<'_>,
+pub(crate) fn thread_of<B: BookCalls>(
+    asked: &Asked<'_, B>,
     thread: &ThreadName,
     page: &Page<StepName>,
 ) -> Result<Option<Json>, AllocError> {
@@ -252,8 +256,8 @@ pub(crate) fn thread_of(
 }
 
 /// The places of a thread's remaining steps.
-fn add_own(
-    asked: &Asked<'_>,
+fn add_own<B: BookCalls>(
+    asked: &Asked<'_, B>,
     thread: &ThreadName,
     places: &mut Vec<usize>,
 ) -> Result<(), AllocError> {
@@ -266,8 +270,8 @@ fn add_own(
     added
 }
 
-fn add_own_of(
-    asked: &Asked<'_>,
+fn add_own_of<B: BookCalls>(
+    asked: &Asked<'_, B>,
     thread: &ThreadName,
     all: &[usize],
     places: &mut Vec<usize>,
@@ -282,8 +286,8 @@ fn add_own_of(
     Ok(())
 }
 
-fn thread_with(
-    asked: &Asked<'_>,
+fn thread_with<B: BookCalls>(
+    asked: &Asked<'_, B>,
     thread: &ThreadName,
     page: &Page<StepName>,
     places: &[usize],
@@ -301,7 +305,11 @@ fn thread_with(
     Ok(Some(answer.done()?))
 }
 
-fn thread_row(asked: &Asked<'_>, thread: &ThreadName, steps: Rows) -> Result<Json, AllocError> {
+fn thread_row<B: BookCalls>(
+    asked: &Asked<'_, B>,
+    thread: &ThreadName,
+    steps: Rows,
+) -> Result<Json, AllocError> {
     let frame = frame_of(asked.book, thread);
     let mut row = Object::new(asked.alloc);
     row.put_thread("thread", thread);
@@ -313,7 +321,7 @@ fn thread_row(asked: &Asked<'_>, thread: &ThreadName, steps: Rows) -> Result<Jso
 }
 
 /// A thread's next move; `null` if it has none, and if it isn't there.
-fn put_move(asked: &Asked<'_>, row: &mut Object, thread: &ThreadName) {
+fn put_move<B: BookCalls>(asked: &Asked<'_, B>, row: &mut Object, thread: &ThreadName) {
     match move_of(asked, thread) {
         Ok(Some(next)) => row.put_word("move", next.word()),
         Ok(None) => row.put_null("move"),
@@ -322,8 +330,8 @@ fn put_move(asked: &Asked<'_>, row: &mut Object, thread: &ThreadName) {
 }
 
 /// A step with its line, what it was given and what it handed on, and what it went on to; with its frames and items if so asked.
-fn told_step(
-    asked: &Asked<'_>,
+fn told_step<B: BookCalls>(
+    asked: &Asked<'_, B>,
     kept: &StepRecord,
     place: usize,
     whole: bool,
@@ -365,8 +373,8 @@ fn handed_on(after: Option<&Frame>) -> Result<Json, AllocError> {
     }
 }
 
-fn frames_of(
-    asked: &Asked<'_>,
+fn frames_of<B: BookCalls>(
+    asked: &Asked<'_, B>,
     before: Option<&Frame>,
     after: Option<&Frame>,
 ) -> Result<Json, AllocError> {
@@ -377,7 +385,11 @@ fn frames_of(
 }
 
 /// The item before and after a call; `null` of another step.
-fn items_of(asked: &Asked<'_>, kept: &StepRecord, place: usize) -> Result<Json, AllocError> {
+fn items_of<B: BookCalls>(
+    asked: &Asked<'_, B>,
+    kept: &StepRecord,
+    place: usize,
+) -> Result<Json, AllocError> {
     let Some(around) = items_around(asked, kept, place)? else {
         return Ok(Json::Null);
     };
@@ -388,7 +400,10 @@ fn items_of(asked: &Asked<'_>, kept: &StepRecord, place: usize) -> Result<Json, 
 }
 
 /// All about the step at a place: also those on which it depends directly, and those that depend directly on it.
-pub(crate) fn step_of(asked: &Asked<'_>, place: usize) -> Result<Json, AllocError> {
+pub(crate) fn step_of<B: BookCalls>(
+    asked: &Asked<'_, B>,
+    place: usize,
+) -> Result<Json, AllocError> {
     let mut answer = asked.answer();
     if let Some(kept) = record_at(asked.book.history(), place) {
         answer.put("step", told_step(asked, kept, place, true));
@@ -398,7 +413,11 @@ pub(crate) fn step_of(asked: &Asked<'_>, place: usize) -> Result<Json, AllocErro
 }
 
 /// So many remaining steps from a place on, with their frames and items.
-pub(crate) fn steps_from(asked: &Asked<'_>, from: usize, count: usize) -> Result<Json, AllocError> {
+pub(crate) fn steps_from<B: BookCalls>(
+    asked: &Asked<'_, B>,
+    from: usize,
+    count: usize,
+) -> Result<Json, AllocError> {
     let records = asked.book.history();
     let end = from.saturating_add(count);
     let last = if end < records.len() {

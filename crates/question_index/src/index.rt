@@ -1,9 +1,9 @@
 // Which accepted line brought what about.
 use crate::definitions::{Definition, Definitions, keep};
 use crate::touched::{Touched, frame_of};
+use book_events::{BookCalls, Entry};
 use command_lines::{Command, CommandFault};
 use json_tree::Text;
-use rollback_book::{Book, Entry};
 use std::alloc::{AllocError, Global};
 use std::collections::BTreeMap;
 use step_names::{StepName, ThreadName};
@@ -97,10 +97,10 @@ impl Index {
     // ---- lines
 
     /// Enters the line that was accepted last. `touched` is what `Touched::before` found before it was.
-    pub fn enter(
+    pub fn enter<B: BookCalls>(
         &mut self,
         alloc: Global,
-        book: &Book,
+        book: &B,
         line: &str,
         touched: Touched,
     ) -> Result<(), AllocError> {
@@ -113,10 +113,10 @@ impl Index {
     }
 
     /// Enters the line of the last entry.
-    fn enter_last(
+    fn enter_last<B: BookCalls>(
         &mut self,
         alloc: Global,
-        book: &Book,
+        book: &B,
         line: &str,
         number: usize,
         touched: &mut Touched,
@@ -204,10 +204,10 @@ impl Index {
     }
 
     /// Notes where the threads are that a line touched.
-    fn place(
+    fn place<B: BookCalls>(
         &mut self,
         alloc: Global,
-        book: &Book,
+        book: &B,
         number: usize,
         touched: &Touched,
     ) -> Result<(), AllocError> {
@@ -230,9 +230,9 @@ impl Index {
     }
 
     /// Notes where a thread is.
-    fn note(
+    fn note<B: BookCalls>(
         &mut self,
-        book: &Book,
+        book: &B,
         number: usize,
         thread: &ThreadName,
         is_moved: bool,

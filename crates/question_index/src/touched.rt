@@ -1,7 +1,7 @@
 // The threads that a line touches.
+use book_events::turns::{Frame, Phase};
+use book_events::{BookCalls, Entry, Kind, Readiness, Refusal, Saved, StepRecord};
 use command_lines::Command;
-use rollback_book::turns::{Frame, Phase};
-use rollback_book::{Book, Entry, Kind, Readiness, Refusal, Saved, StepRecord};
 use std::alloc::{AllocError, Global};
 use std::collections::BTreeMap;
 use std::ops::Range;
@@ -31,9 +31,9 @@ impl Touched {
 
     /// The threads of steps that a command is about to take back. Asked before the command is given, since the steps are known
     /// only then. Takes what a plan takes, and memory for each thread.
-    pub fn before(
+    pub fn before<B: BookCalls>(
         alloc: Global,
-        book: &Book,
+        book: &B,
         command: &Command<'_>,
     ) -> Result<Touched, AllocError> {
         let mut touched = Touched::none(alloc);
@@ -51,7 +51,12 @@ impl Touched {
         }
     }
 
-    fn add_step(&mut self, alloc: Global, book: &Book, step: &StepName) -> Result<(), AllocError> {
+    fn add_step<B: BookCalls>(
+        &mut self,
+        alloc: Global,
+        book: &B,
+        step: &StepName,
+    ) -> Result<(), AllocError> {
         let records = book.history();
         match records.find(step) {
             Some(at) if at < records.len() => self.add_record(alloc, book, records.get(at)),
@@ -59,7 +64,12 @@ impl Touched {
         }
     }
 
-    fn add_plan(&mut self, alloc: Global, book: &Book, step: &StepName) -> Result<(), AllocError> {
+    fn add_plan<B: BookCalls>(
+        &mut self,
+        alloc: Global,
+        book: &B,
+        step: &StepName,
+    ) -> Result<(), AllocError> {
         let records = book.history();
         let Some(at) = records.find(step) else {
             return Ok(());
@@ -73,10 +83,10 @@ impl Touched {
         added
     }
 
-    fn add_records(
+    fn add_records<B: BookCalls>(
         &mut self,
         alloc: Global,
-        book: &Book,
+        book: &B,
         places: &[usize],
     ) -> Result<(), AllocError> {
         let records = book.history();
@@ -89,10 +99,10 @@ impl Touched {
     }
 
     /// The threads of a step that is taken back: its own, the branches that it forked, and those that it closed.
-    fn add_record(
+    fn add_record<B: BookCalls>(
         &mut self,
         alloc: Global,
-        book: &Book,
+        book: &B,
         kept: &StepRecord,
     ) -> Result<(), AllocError> {
         let name = &kept.fact.name;
@@ -105,10 +115,10 @@ impl Touched {
     }
 
     /// The branches of a fork whose thread is over them.
-    fn add_branches(
+    fn add_branches<B: BookCalls>(
         &mut self,
         alloc: Global,
-        book: &Book,
+        book: &B,
         fork: &StepName,
     ) -> Result<(), AllocError> {
         let Some(frame) = frame_of(book, &fork.thread) else {
@@ -124,17 +134,22 @@ impl Touched {
     }
 
     /// The threads above these, whose next moves depend on them, and under a bound the branches that wait for them.
-    fn add_around(&mut self, alloc: Global, book: &Book, ends: Ends) -> Result<(), AllocError> {
+    fn add_around<B: BookCalls>(
+        &mut self,
+        alloc: Global,
+        book: &B,
+        ends: Ends,
+    ) -> Result<(), AllocError> {
         let above = forks_above(alloc, self.moved.as_slice())?;
         let added = self.add_above(alloc, book, &above, ends);
         drop(above);
         added
     }
 
-    fn add_above(
+    fn add_above<B: BookCalls>(
         &mut self,
         alloc: Global,
-        book: &Book,
+        book: &B,
         above: &Forks,
         ends: Ends,
     ) -> Result<(), AllocError> {
@@ -156,10 +171,10 @@ impl Touched {
 
     /// Branches under a bound. After a step only those up to the first that waits may have been freed; after an undoing each may wait
     /// that didn't.
-    fn add_waiting(
+    fn add_waiting<B: BookCalls>(
         &mut self,
         alloc: Global,
-        book: &Book,
+        book: &B,
         over: &ThreadName,
         fork: u32,
         branches: Range<u32>,
@@ -178,7 +193,11 @@ impl Touched {
     }
 
     /// Adds a branch. Whether it waits.
-    fn add_beside(&mut self, book: &Book, branch: ThreadName) -> Result<bool, AllocError> {
+    fn add_beside<B: BookCalls>(
+        &mut self,
+        book: &B,
+        branch: ThreadName,
+    ) -> Result<bool, AllocError> {
         match is_waiting(book, &branch) {
             Ok(waits) => {
                 self.beside.push(branch)?;
@@ -251,10 +270,10 @@ fn add_copies_of(
 
 impl Touched {
     /// Adds the threads that the entry touched which came last. Those of steps that it took back are there already.
-    pub(crate) fn add_entry(
+    pub(crate) fn add_entry<B: BookCalls>(
         &mut self,
         alloc: Global,
-        book: &Book,
+        book: &B,
         entry: &Entry,
     ) -> Result<(), AllocError> {
         match entry {
@@ -269,10 +288,10 @@ impl Touched {
         self.add_around(alloc, book, ends)
     }
 
-    fn add_taken(
+    fn add_taken<B: BookCalls>(
         &mut self,
         alloc: Global,
-        book: &Book,
+        book: &B,
         name: &StepName,
         kind: Kind,
     ) -> Result<(), AllocError> {
@@ -285,10 +304,10 @@ impl Touched {
     }
 
     /// The branches that a join or a terminate took away.
-    fn add_closed(
+    fn add_closed<B: BookCalls>(
         &mut self,
         alloc: Global,
-        book: &Book,
+        book: &B,
         name: &StepName,
     ) -> Result<(), AllocError> {
         let records = book.history();
@@ -302,7 +321,7 @@ impl Touched {
 }
 
 /// The frame of a thread, if it has one. Takes no memory, and time logarithmic in the number of executions.
-pub fn frame_of<'a>(book: &'a Book, name: &ThreadName) -> Option<&'a Frame> {
+pub fn frame_of<'a, B: BookCalls>(book: &'a B, name: &ThreadName) -> Option<&'a Frame> {
     match book.show(name) {
         Ok(frame) => Some(frame),
         Err(_) => None,
@@ -318,7 +337,7 @@ fn branches_of(frame: &Frame) -> u32 {
 }
 
 /// Whether a thread waits for others.
-pub fn is_waiting(book: &Book, name: &ThreadName) -> Result<bool, AllocError> {
+pub fn is_waiting<B: BookCalls>(book: &B, name: &ThreadName) -> Result<bool, AllocError> {
     match book.ticket(name) {
         Ok(ticket) => {
             drop(ticket);

@@ -1,12 +1,14 @@
 // The calls of a book that one caller has, as `Book` has them.
+ghost use Rattle.item_store.specs.Store.{slot_key};
+ghost use Rattle.step_history.specs.History.{history_items};
 ghost use Rattle.rollback_book.specs.Making.{CanEnter};
 
 use crate::book::Book;
 use crate::making::Made;
-use attr_values::ItemFault;
+use attr_values::{Item, ItemFault};
 use book_events::{BookCalls, Change};
 use book_log::{Begin, Entry, Refusal};
-use item_store::Items;
+use item_store::{Items, SlotNo};
 use std::alloc::Global;
 use step_history::StepRecords;
 
@@ -16,6 +18,8 @@ impl BookCalls for Book {
     ghost entry_in = { λ m. m.entry };
 
     ghost can_enter = { CanEnter };
+
+    ghost key_in = { λ b slot. slot_key (history_items b.history) slot };
 
     fn open(alloc: Global, begin: Begin) -> Result<Book, ItemFault> {
         Book::open(alloc, begin)
@@ -35,6 +39,10 @@ impl BookCalls for Book {
 
     fn items(&self) -> Items<'_> {
         Book::items(self)
+    }
+
+    fn item_in(&self, slot: SlotNo) -> Option<&Item> {
+        Book::item_in(self, slot)
     }
 
     fn history(&self) -> &StepRecords {
