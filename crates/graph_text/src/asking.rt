@@ -41,10 +41,10 @@ pub fn ask<B: BookCalls>(
     question: &Question,
 ) -> Result<Answer, AllocError> {
     match book {
-        Some(book) => ask_of(alloc, Some(book), book.history(), question),
+        Some(given) => ask_of(alloc, book, given.history(), question),
         None => {
             let empty = StepRecords::new(alloc);
-            let answer = ask_of(alloc, None::<&B>, &empty, question);
+            let answer = ask_of(alloc, book, &empty, question);
             drop(empty);
             answer
         }
