@@ -5,8 +5,8 @@ use Rattle.session_tests.proofs.serving.a_reader_that_is_asked_too_often.Goals a
 pub ended_within-requires-send-B : goal.ended_within-requires-send-B
 ended_within-requires-send-B c = λ κs inside. search (book_send, sendable)
 
-pub ended_within-2-requires-send-B : goal.ended_within-2-requires-send-B
-ended_within-2-requires-send-B c = λ κs inside. search (book_send, sendable)
+pub ended_within-requires-2-send-B : goal.ended_within-requires-2-send-B
+ended_within-requires-2-send-B c = λ κs inside. search (book_send, sendable)
 
-pub ended_within-3-requires-send-B : goal.ended_within-3-requires-send-B
-ended_within-3-requires-send-B c = λ κs inside. search (book_send, sendable)
+pub ended_within-requires-3-send-B : goal.ended_within-requires-3-send-B
+ended_within-requires-3-send-B c = λ κs inside. search (book_send, sendable)
