@@ -10,7 +10,8 @@ is whose. So counts of lines are compared whose own needs are alike, in further 
 - In books without further executions, and with 100 and --most of them (2000), each question and each refused line makes as many requests.
 - A `history`, a `held` without a hold, and a `show` of a thread that isn't there make none, in each of these books.
 - An accepted undoing makes as many more than a refused one as a rollback makes more than its plan. Each pair has one need apart from taking
-  back, which is the line in the journal; a settlement of nothing makes as many. It is so in each of these books, of the first
+  back, which is the line in the journal; a settlement of nothing makes as many. An undoing also copies the name of its step for its entry,
+  which is a request more if that is a branch's; a rollback's entry takes the names of its plan. It is so in each of these books, of the first
   and of the last step, and where a rollback takes all steps but one: so to take back makes no request, neither for what is
   taken nor for what stays.
 - In the sessions of rows/*.txt that are one run without workers, each `history` makes none; each `show` and each `items` as many as any other with
@@ -136,7 +137,8 @@ def excess(lines, step, root):
     (_, plan, rollback), also_told = of_last(lines, asked, b"rollback " + root)
     if told[0] != [b"no 7"] or told[2] != [b"ok"] or also_told[1] != also_told[2] or not also_told[1][0].startswith(b"ok"):
         raise Odd(f"undo {step.decode()} and rollback {root.decode()}: {told}, {also_told}")
-    return undoing - refused, rollback - plan, len(also_told[2]) - 1
+    of_name = 1 if b"/" in step else 0
+    return undoing - refused - of_name, rollback - plan, len(also_told[2]) - 1
 
 
 def taken_of_many(count, is_first):
